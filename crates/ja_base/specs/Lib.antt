@@ -1,0 +1,4 @@
+pub mod Refusal
+pub mod Cause
+pub mod Kind
+pub mod Descriptor

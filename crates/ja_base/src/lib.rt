@@ -1,0 +1,23 @@
+//! What every crate of the analyser speaks of: names, lists, ids, refusals and limits.
+#![tactic(auto)]
+
+mod file;
+mod id;
+mod java_type;
+mod limit;
+mod memory;
+mod name;
+mod refusal;
+mod seq;
+
+pub use file::{File, Files};
+pub use id::{BlockId, ClassId, FieldId, MethodId, SiteId};
+pub use java_type::{JavaType, JavaTypes, Kind};
+pub use limit::{
+    MAX_CLASS_FILES, MAX_FILE_BYTES, MAX_FRAME_VALUES, MAX_GENERATED_CLASSES, MAX_SLOTS,
+    MAX_TOTAL_BYTES, MAX_VARIABLES, MAX_WORKERS, MIN_SLOTS,
+};
+pub use memory::Memory;
+pub use name::{Name, Names};
+pub use refusal::Refusal;
+pub use seq::{Bytes, Flags, Numbers, Seq};
