@@ -1,0 +1,9 @@
+pub mod EntryLoop
+pub mod Steps
+pub mod Exact
+pub mod PoolLaws
+pub mod CodeLaws
+pub mod LayoutLaws
+pub mod FrameLaws
+pub mod Utf8Laws
+pub mod MethodLaws

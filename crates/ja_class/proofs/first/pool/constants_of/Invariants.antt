@@ -1,0 +1,8 @@
+use Rattle.std.proofs.Common.{◌≡◌, ◌-◌}
+use Rattle.ja_class.specs.Views.{entries}
+use Rattle.ja_class.specs.Reading.{entries_from}
+use Rattle.ja_class.proofs.EntryLoop.{after_front}
+use Rattle.ja_class.proofs.first.pool.constants_of.Given as goal
+
+abbrev pub invariant-loop : goal.invariant-loop
+invariant-loop l = after_front (entries l.constants.items) (entries_from (l.count - l.counter) l.rest) ≡ entries_from l.count l.bytes
