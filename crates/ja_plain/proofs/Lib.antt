@@ -1,0 +1,12 @@
+pub mod Passing
+pub mod Greatest
+pub mod Rounds
+pub mod Solution
+pub mod Counts
+pub mod ReachTest
+pub mod Grown
+pub mod Steps
+pub mod Calls
+pub mod Runs
+pub mod Environments
+pub mod Clean

@@ -1,0 +1,13 @@
+pub mod Least
+pub mod Token
+pub mod Operation
+pub mod Equations
+pub mod Verdict
+pub mod Pass
+pub mod State
+pub mod Reach
+pub mod Library
+pub mod Run
+pub mod Environment
+pub mod Covers
+pub mod Examples
