@@ -1,0 +1,4 @@
+pub mod Fronts
+pub mod Judged
+pub mod Told
+pub mod Endings

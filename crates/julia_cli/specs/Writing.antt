@@ -1,0 +1,9 @@
+-- How a text is written.
+use Rattle.std.specs.Prelude.{◌≡◌, ℕ, ◌<◌, List, length, take, Option}
+use Rattle.ja_io.specs.Written.{appended}
+
+-- less than the whole text was written, from its front
+pub record IsCut (before after : Option (List ℕ)) (text : List ℕ) : Type 0 where
+  pub taken : ℕ
+  pub less : taken < length text
+  pub front : after ≡ appended before (take taken text)
