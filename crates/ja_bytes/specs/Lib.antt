@@ -1,0 +1,5 @@
+pub mod Reading
+pub mod Text
+pub mod Longest
+pub mod DescriptorText
+pub mod Desc

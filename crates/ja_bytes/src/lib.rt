@@ -1,0 +1,16 @@
+//! Reading bytes of class files: fields of a fixed width, texts and descriptors.
+#![tactic(auto)]
+
+mod cursor;
+mod descriptor;
+mod law;
+mod text;
+mod type_text;
+
+pub use cursor::{Cursor, End};
+pub use descriptor::{Desc, DescFault, field_desc, method_desc};
+pub use law::law_one_reading;
+pub use text::{BadText, modified_utf8};
+
+#[cfg(test)]
+mod tests;
