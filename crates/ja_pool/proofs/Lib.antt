@@ -1,0 +1,5 @@
+pub mod PayloadParts
+pub mod Entries
+pub mod Tables
+pub mod ReadParts
+pub mod OneReading

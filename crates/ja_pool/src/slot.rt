@@ -1,0 +1,87 @@
+ghost use Rattle.std.specs.Prelude.{◌≡◌, ◌∷◌, ◌++◌, OnOk};
+ghost use Rattle.ja_pool.specs.Slot.{form_tag, form_first, form_second, form_pad};
+
+use std::alloc::AllocError;
+
+/// What stands at an index of the pool. A text is named by its place among the pool's bytes.
+#[derive(Clone, Copy)]
+pub enum Form {
+    Unusable,
+    Utf8 { from: u64, len: u16 },
+    Number { tag: u8, bits: u32 },
+    Wide { tag: u8, bits: u64 },
+    Single { tag: u8, index: u16 },
+    Pair { tag: u8, first: u16, second: u16 },
+    Handle { kind: u8, index: u16 },
+}
+
+/// An index of the pool: the place of the entry's tag in the file, and what the entry is.
+#[derive(Clone, Copy)]
+pub struct Slot {
+    pub place: u64,
+    pub form: Form,
+}
+
+/// An index at which nothing stands.
+pub const NOTHING: Slot = Slot {
+    place: 0,
+    form: Form::Unusable,
+};
+
+impl Form {
+    /// The tag, 0 where nothing stands.
+    pub fn tag(self) -> u8
+        ensures { result ≡ form_tag self }
+    {
+        match self {
+            Form::Unusable => 0,
+            Form::Utf8 { .. } => 1,
+            Form::Number { tag, .. } => tag,
+            Form::Wide { tag, .. } => tag,
+            Form::Single { tag, .. } => tag,
+            Form::Pair { tag, .. } => tag,
+            Form::Handle { .. } => 15,
+        }
+    }
+
+    /// The index that is held, or the first of two.
+    pub fn first(self) -> u16
+        ensures { result ≡ form_first self }
+    {
+        match self {
+            Form::Single { index, .. } => index,
+            Form::Pair { first, .. } => first,
+            Form::Handle { index, .. } => index,
+            Form::Unusable => 0,
+            Form::Utf8 { .. } => 0,
+            Form::Number { .. } => 0,
+            Form::Wide { .. } => 0,
+        }
+    }
+
+    /// The second of two indices.
+    pub fn second(self) -> u16
+        ensures { result ≡ form_second self }
+    {
+        match self {
+            Form::Pair { second, .. } => second,
+            Form::Single { .. } => 0,
+            Form::Handle { .. } => 0,
+            Form::Unusable => 0,
+            Form::Utf8 { .. } => 0,
+            Form::Number { .. } => 0,
+            Form::Wide { .. } => 0,
+        }
+    }
+}
+
+/// Adds the slot of an entry, and the index behind it that a number of eight bytes takes too.
+pub fn add(slots: &mut Vec<Slot>, slot: Slot) -> Result<(), AllocError>
+    ensures { OnOk result (slots.new.items ≡ slots.old.items ++ slot ∷ form_pad slot.form) }
+{
+    slots.push(slot)?;
+    if matches!(slot.form, Form::Wide { .. }) {
+        slots.push(NOTHING)?;
+    }
+    Ok(())
+}
