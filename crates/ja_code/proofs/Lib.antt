@@ -1,0 +1,10 @@
+pub mod Table
+pub mod Places
+pub mod Passing
+pub mod Pieces
+pub mod Sound
+pub mod Complete
+pub mod Whole
+pub mod Decoding
+pub mod Ending
+pub mod Targets

@@ -1,0 +1,31 @@
+-- The table of opcodes, row by row.
+use Rattle.std.proofs.Common.{◌≡◌, ℕ, zero, suc, ◌+◌, ◌<◌, List, [], ◌∷◌, get_or, map, Option, Some, refl, ap, ◌∙◌, arith, Bor}
+use Rattle.ja_code.specs.declared.opcode.Form.{Form}
+use Rattle.ja_code.specs.Opcode.{form_at}
+
+-- the values of f at count numbers from start on
+abbrev pub values : {Y : Type 0} → (ℕ → Y) → ℕ → ℕ → List Y
+values f start zero = []
+values f start (suc count) = f start ∷ values f (suc start) count
+
+values_at : {Y : Type 0} (f : ℕ → Y) (start count i : ℕ) (d : Y) → i < count → get_or (values f start count) i d ≡ f (start + i)
+values_at f start zero i d below = absurd (omega arith)
+values_at f start (suc count) zero d below = ap f (omega arith)
+values_at f start (suc count) (suc i) d below = values_at f (suc start) count i d (omega arith) ∙ ap f (omega arith)
+
+-- the forms of a table
+pub form_in_row : (xs : List (Bor (List ℕ) × Form)) (i : ℕ) (d : Bor (List ℕ) × Form)
+    → Some (get_or xs i d).1 ≡ get_or (map (λ (r : Bor (List ℕ) × Form). Some r.1) xs) i (Some d.1)
+form_in_row [] i d = refl
+form_in_row (x ∷ xs) zero d = refl
+form_in_row (x ∷ xs) (suc i) d = form_in_row xs i d
+
+pub form_by_number : (i : ℕ) (d : Option Form) → i < 202 → get_or (values form_at 0 202) i d ≡ form_at i
+form_by_number i d below = values_at form_at 0 202 i d below ∙ ap form_at (omega arith)
+
+-- the mnemonics of a table
+pub mnemonic_in_row : (xs : List (Bor (List ℕ) × Form)) (i : ℕ) (d : Bor (List ℕ) × Form)
+    → (get_or xs i d).0.now ≡ get_or (map (λ (r : Bor (List ℕ) × Form). r.0.now) xs) i d.0.now
+mnemonic_in_row [] i d = refl
+mnemonic_in_row (x ∷ xs) zero d = refl
+mnemonic_in_row (x ∷ xs) (suc i) d = mnemonic_in_row xs i d

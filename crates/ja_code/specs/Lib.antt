@@ -1,0 +1,6 @@
+pub mod Opcode
+pub mod Mnemonic
+pub mod Bytes
+pub mod Grammar
+pub mod Faults
+pub mod Reading
