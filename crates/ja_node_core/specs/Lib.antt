@@ -1,0 +1,4 @@
+pub mod Tree
+pub mod Word
+pub mod Node
+pub mod Machine
