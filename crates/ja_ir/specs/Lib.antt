@@ -1,0 +1,11 @@
+pub mod Lookup
+pub mod Descriptors
+pub mod Operations
+pub mod Tokens
+pub mod Handlers
+pub mod Whole
+pub mod Entries
+pub mod Blocks
+pub mod Leaders
+pub mod Examples
+pub mod Sample

@@ -1,0 +1,31 @@
+//! The program that is analysed: its classes, methods and fields, what each instruction does, the
+//! methods that the environment may call, and the sink calls.
+#![tactic(auto)]
+
+mod block;
+mod class;
+mod entry;
+mod head;
+mod law;
+mod method;
+mod op;
+mod program;
+mod row;
+
+pub use block::{Block, Blocks, blocks_of};
+pub use class::{
+    ClassIds, ClassInfo, ClassInfos, Field, FieldIds, Fields, MethodAt, MethodIds, Selection,
+    Selections,
+};
+pub use entry::{Entries, Entry, Site, Sites};
+pub use head::{ClassHead, HeadField, HeadFields, HeadMethod, HeadMethods};
+pub use law::{
+    law_environment_methods, law_params_are_spelled, law_sample_is_whole, law_small_program,
+};
+pub use method::{Catch, Handler, Handlers, Instr, Instrs, Method, Methods};
+pub use op::{CallKind, CallOp, Op, Token};
+pub use program::{Parts, Program};
+pub use row::{LibRow, RowEffect, RowFlow, RowResult};
+
+#[cfg(test)]
+mod tests;
