@@ -1,0 +1,27 @@
+use Rattle.std.proofs.Common.{refl}
+use Rattle.ja_machine.proofs.law.law_small_programs.Goals as goal
+
+pub returns : goal.returns
+returns c = record {
+  override_taints = refl;
+  override_is_clean = refl;
+  builder_marked = refl;
+  builder_holds = refl;
+  builder_took_nothing = refl;
+  unlinked_writes = refl;
+  unlinked_node = refl;
+  caught_exception = refl;
+  caught_by_library_class = refl;
+  passed_library_class = refl;
+  mix_of_reference = refl;
+  text_without_next = refl;
+  shared_object = refl;
+  before_it_was_stored = refl;
+  marked_is_not_given = refl;
+  no_initialiser = refl;
+  no_receiver = refl;
+  no_such_object = refl;
+  noted_object = refl;
+  object_made = refl;
+  null_given = refl;
+}

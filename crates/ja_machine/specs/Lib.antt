@@ -1,0 +1,13 @@
+pub mod Reach
+pub mod Search
+pub mod Searches
+pub mod State
+pub mod Objects
+pub mod Step
+pub mod Library
+pub mod Call
+pub mod Run
+pub mod Environment
+pub mod Laws
+pub mod Examples
+pub mod Operations

@@ -1,0 +1,176 @@
+-- Each operation's normal and exceptional ends, at small heaps.
+use Rattle.std.specs.Prelude.{◌≡◌, ℕ, Bool, true, false, List, [], ◌∷◌, Some, None, codes}
+use Rattle.ja_base.specs.declared.java_type.Kind.TheVariants.{P1, R}
+use Rattle.ja_ir.specs.declared.program.Parts.{Parts}
+use Rattle.ja_ir.specs.declared.class.Field.{Field}
+use Rattle.ja_ir.specs.declared.class.MethodAt.TheVariants.{Program, Abstract}
+use Rattle.ja_ir.specs.declared.row.RowFlow.TheVariants.{Args}
+use Rattle.ja_ir.specs.declared.row.RowEffect.TheVariants.{Quiet, Absorb}
+use Rattle.ja_ir.specs.declared.row.RowResult.TheVariants.{Argument}
+use Rattle.ja_ir.specs.declared.op.CallOp.{CallOp}
+use Rattle.ja_ir.specs.declared.op.CallKind.TheVariants.{Virtual, Special, Static}
+use Rattle.ja_ir.specs.declared.op.Op.{Op}
+use Rattle.ja_ir.specs.declared.op.Op.TheVariants.{Nop, Const, Text, New, Load, Store, ArrLoad, ArrStore, Shuffle, Mix, Branch, Return, GetStatic, PutStatic, GetField, PutField, Call, NewArray, ArrLen, Throw, Cast, InstanceOf, Monitor}
+use Rattle.ja_ir.specs.Examples.{class, method}
+use Rattle.ja_machine.specs.declared.heap.Value.{Value}
+use Rattle.ja_machine.specs.declared.heap.Value.TheVariants.{Prim, Null, Ref}
+use Rattle.ja_machine.specs.declared.heap.FieldValue.{FieldValue}
+use Rattle.ja_machine.specs.declared.heap.Object.{Object}
+use Rattle.ja_machine.specs.State.{Frame, World, Next, Goes, Throws, Ends, Enters, NoRule}
+use Rattle.ja_machine.specs.Run.{act}
+use Rattle.ja_machine.specs.Examples.{string}
+
+-- a class A with a field a, and a static field s of type java/lang/String; an interface I. Token 0 is A, 1 is I, 2 a text, 3 a library object,
+-- 4 an array of references and 5 an array of primitives. Method 0 is static, and its code is empty
+abbrev pub tiny : Parts
+tiny = record {
+  classes = class (codes "A") 0x0021 (0 ∷ []) [] ∷ class (codes "I") 0x0601 (1 ∷ []) [] ∷ [];
+  methods = method 0 (codes "f") (codes "()V") 0x0008 0 0 [] [] ∷ [];
+  fields = field (codes "a") (codes "I") 0 ∷ field (codes "s") (codes "Ljava/lang/String;") 0x0008 ∷ [];
+  entries = [];
+  sites = [];
+}
+  where
+    field : (name desc : List ℕ) (flags : ℕ) → Field
+    field name desc flags = record { class = record { 0 = 0 }; name = name; desc = desc; flags = flags; text = false }
+
+-- an object of a token, with these fields, mark and bag
+abbrev pub object : (token : ℕ) (fields : List FieldValue) (mark : Bool) (bag : List ℕ) → Object
+object token fields mark bag = record { token = record { 0 = token }; fields = fields; mark = mark; bag = bag }
+
+-- an object of class A whose field has this value
+abbrev pub an_a : Value → Object
+an_a value = object 0 (record { field = record { 0 = 0 }; value = value } ∷ []) false []
+
+-- a text
+abbrev pub a_text : Object
+a_text = object 2 [] false []
+
+-- a library object
+abbrev pub a_lib : Object
+a_lib = object 3 [] false []
+
+-- an array of references to these places
+abbrev pub references_to : List ℕ → Object
+references_to bag = object 4 [] false bag
+
+-- an array of primitives with this mark
+abbrev pub primitives : (mark : Bool) → Object
+primitives mark = object 5 [] mark []
+
+-- a frame with two locals and this stack
+abbrev pub clean : List Value → Frame
+clean stack = record { locals = Null ∷ Prim true ∷ []; stack = stack; dirt = false }
+
+-- a frame with two locals and this stack, whose dirt is up
+abbrev pub dirty : List Value → Frame
+dirty stack = record { locals = Null ∷ Prim true ∷ []; stack = stack; dirt = true }
+
+-- these objects and these choices, and nothing written yet
+abbrev pub world : List Object → List ℕ → World
+world heap choices = record { heap = heap; statics = Prim false ∷ Null ∷ []; choices = choices; events = []; written = []; set = [] }
+
+-- the world after one write of the object at place 0
+abbrev pub wrote : World → World
+wrote it = record it { written = 0 ∷ [] }
+
+-- what an operation does in the program `tiny`
+abbrev pub does : Op → Frame → World → Next
+does = act tiny
+
+-- the operation that does a call
+abbrev pub call : CallOp → Op
+call c = Call c
+
+-- a static call of method 0
+abbrev pub calling_f : CallOp
+calling_f = record {
+  kind = Static;
+  class = codes "A";
+  name = codes "f";
+  desc = codes "()V";
+  params = [];
+  result = None;
+  row = record { flow = Args; effect = Quiet; result = Argument; sinks = [] };
+  found = Some (Program (record { 0 = 0 }));
+}
+
+-- a virtual call of a library method that answers its receiver, as a text
+abbrev pub calling_self : CallOp
+calling_self = record {
+  kind = Virtual;
+  class = codes "java/lang/Object";
+  name = codes "g";
+  desc = codes "()Ljava/lang/String;";
+  params = [];
+  result = Some string;
+  row = record { flow = Args; effect = Quiet; result = Argument; sinks = [] };
+  found = None;
+}
+
+-- the same, which may put its receiver into the receiver's bag
+abbrev pub absorbing_self : CallOp
+absorbing_self = record calling_self { row = record { flow = Args; effect = Absorb; result = Argument; sinks = [] } }
+
+-- a choice of 1 lets an operation throw that may
+pub record OperationsDo : Type 0 where
+  pub nop : does Nop (clean []) (world [] []) ≡ Goes (clean []) (world [] [])
+  pub const_null : does (Const R) (clean []) (world [] []) ≡ Goes (clean (Null ∷ [])) (world [] [])
+  pub const_number : does (Const P1) (clean []) (world [] []) ≡ Goes (clean (Prim false ∷ [])) (world [] [])
+  pub text : does Text (clean []) (world [] []) ≡ Goes (clean (Ref 0 ∷ [])) (world (a_text ∷ []) [])
+  pub new : does (New (record { 0 = 0 })) (clean []) (world [] []) ≡ Goes (clean (Ref 0 ∷ [])) (world (an_a (Prim false) ∷ []) [])
+  pub new_throws : does (New (record { 0 = 0 })) (clean []) (world [] (1 ∷ [])) ≡ Throws 0 (clean []) (world (a_lib ∷ []) [])
+  pub new_interface_throws : does (New (record { 0 = 1 })) (clean []) (world [] (0 ∷ [])) ≡ Throws 0 (clean []) (world (a_lib ∷ []) (0 ∷ []))
+  pub load : does (Load P1 1) (clean []) (world [] []) ≡ Goes (clean (Prim true ∷ [])) (world [] [])
+  pub store : does (Store P1 1) (clean (Prim false ∷ [])) (world [] []) ≡ Goes (record { locals = Null ∷ Prim false ∷ []; stack = []; dirt = false }) (world [] [])
+  pub swap : does (Shuffle 2 (1 ∷ 0 ∷ [])) (clean (Null ∷ Prim true ∷ [])) (world [] []) ≡ Goes (clean (Prim true ∷ Null ∷ [])) (world [] [])
+  pub dup_x1 : does (Shuffle 2 (1 ∷ 0 ∷ 1 ∷ [])) (clean (Null ∷ Prim true ∷ [])) (world [] []) ≡ Goes (clean (Null ∷ Prim true ∷ Null ∷ [])) (world [] [])
+  pub mix : does (Mix 2 P1 false) (clean (Prim false ∷ Prim true ∷ [])) (world [] []) ≡ Goes (clean (Prim true ∷ [])) (world [] [])
+  pub mix_throws : does (Mix 2 P1 true) (clean (Prim false ∷ Prim true ∷ [])) (world [] (1 ∷ [])) ≡ Throws 0 (clean []) (world (a_lib ∷ []) [])
+  pub mix_of_reference : does (Mix 2 P1 false) (clean (Prim false ∷ Null ∷ [])) (world [] []) ≡ NoRule
+  pub mix_of_reference_throws : does (Mix 1 P1 true) (clean (Ref 0 ∷ [])) (world [] (1 ∷ [])) ≡ Throws 0 (clean []) (world (a_lib ∷ []) [])
+  pub mix_of_reference_goes_on : does (Mix 1 P1 true) (clean (Ref 0 ∷ [])) (world [] (0 ∷ [])) ≡ NoRule
+  pub branch : does (Branch 1) (clean (Prim true ∷ Null ∷ [])) (world [] []) ≡ Goes (clean (Null ∷ [])) (world [] [])
+  pub return_value : does (Return (Some R)) (dirty (Null ∷ [])) (world [] []) ≡ Ends (Some Null) true (world [] [])
+  pub return_nothing : does (Return None) (clean []) (world [] []) ≡ Ends None false (world [] [])
+  pub throw : does Throw (clean (Ref 0 ∷ [])) (world (a_lib ∷ []) []) ≡ Throws 0 (clean []) (world (a_lib ∷ []) [])
+  pub throw_null : does Throw (clean (Null ∷ [])) (world [] []) ≡ Throws 0 (clean []) (world (a_lib ∷ []) [])
+  pub get_field : does (GetField (record { 0 = 0 })) (clean (Ref 0 ∷ [])) (world (an_a (Prim true) ∷ []) []) ≡ Goes (clean (Prim true ∷ [])) (world (an_a (Prim true) ∷ []) [])
+  pub get_field_throws : does (GetField (record { 0 = 0 })) (clean (Null ∷ [])) (world [] []) ≡ Throws 0 (clean []) (world (a_lib ∷ []) [])
+  pub get_field_of_another : does (GetField (record { 0 = 0 })) (clean (Ref 0 ∷ [])) (world (a_text ∷ []) []) ≡ NoRule
+  pub put_field : does (PutField (record { 0 = 0 })) (clean (Prim true ∷ Ref 0 ∷ [])) (world (an_a (Prim false) ∷ []) []) ≡ Goes (dirty []) (wrote (world (an_a (Prim true) ∷ []) []))
+  pub put_field_of_equal_value : does (PutField (record { 0 = 0 })) (clean (Prim false ∷ Ref 0 ∷ [])) (world (an_a (Prim false) ∷ []) []) ≡ Goes (clean []) (wrote (world (an_a (Prim false) ∷ []) []))
+  pub put_field_throws : does (PutField (record { 0 = 0 })) (clean (Prim true ∷ Null ∷ [])) (world [] []) ≡ Throws 0 (clean []) (world (a_lib ∷ []) [])
+  pub get_static : does (GetStatic (record { 0 = 1 })) (clean []) (world [] []) ≡ Goes (clean (Null ∷ [])) (world [] [])
+  pub get_static_of_member : does (GetStatic (record { 0 = 0 })) (clean []) (world [] []) ≡ NoRule
+  pub put_static : does (PutStatic (record { 0 = 1 })) (clean (Ref 0 ∷ [])) (world (a_text ∷ []) []) ≡
+      Goes (clean []) (record { heap = a_text ∷ []; statics = Prim false ∷ Ref 0 ∷ []; choices = []; events = []; written = []; set = 1 ∷ [] })
+  pub new_array : does (NewArray (record { 0 = 5 }) 2) (clean (Prim false ∷ Prim false ∷ [])) (world [] []) ≡ Goes (clean (Ref 1 ∷ [])) (world (primitives false ∷ references_to (0 ∷ []) ∷ []) [])
+  pub new_array_throws : does (NewArray (record { 0 = 5 }) 1) (clean (Prim false ∷ [])) (world [] (1 ∷ [])) ≡ Throws 0 (clean []) (world (a_lib ∷ []) [])
+  pub array_load : does (ArrLoad R) (clean (Prim false ∷ Ref 0 ∷ [])) (world (references_to (1 ∷ []) ∷ a_text ∷ []) (0 ∷ 1 ∷ [])) ≡ Goes (clean (Ref 1 ∷ [])) (world (references_to (1 ∷ []) ∷ a_text ∷ []) [])
+  pub array_load_null_element : does (ArrLoad R) (clean (Prim false ∷ Ref 0 ∷ [])) (world (references_to [] ∷ []) (0 ∷ 1 ∷ [])) ≡ Goes (clean (Null ∷ [])) (world (references_to [] ∷ []) (1 ∷ []))
+  pub array_load_number : does (ArrLoad P1) (clean (Prim false ∷ Ref 0 ∷ [])) (world (primitives true ∷ []) []) ≡ Goes (clean (Prim true ∷ [])) (world (primitives true ∷ []) [])
+  pub array_load_throws : does (ArrLoad R) (clean (Prim false ∷ Null ∷ [])) (world [] []) ≡ Throws 0 (clean []) (world (a_lib ∷ []) [])
+  pub array_store : does (ArrStore R) (clean (Ref 1 ∷ Prim false ∷ Ref 0 ∷ [])) (world (references_to [] ∷ a_text ∷ []) []) ≡ Goes (clean []) (wrote (world (references_to (1 ∷ []) ∷ a_text ∷ []) []))
+  pub array_store_number : does (ArrStore P1) (clean (Prim true ∷ Prim false ∷ Ref 0 ∷ [])) (world (primitives false ∷ []) []) ≡ Goes (dirty []) (wrote (world (primitives true ∷ []) []))
+  pub array_store_throws : does (ArrStore R) (clean (Null ∷ Prim false ∷ Ref 0 ∷ [])) (world (references_to [] ∷ []) (1 ∷ [])) ≡ Throws 1 (clean []) (world (references_to [] ∷ a_lib ∷ []) [])
+  pub array_length : does ArrLen (clean (Ref 0 ∷ [])) (world (primitives true ∷ []) []) ≡ Goes (clean (Prim false ∷ [])) (world (primitives true ∷ []) [])
+  pub array_length_throws : does ArrLen (clean (Null ∷ [])) (world [] []) ≡ Throws 0 (clean []) (world (a_lib ∷ []) [])
+  pub cast : does (Cast (codes "A")) (clean (Ref 0 ∷ [])) (world (an_a Null ∷ []) []) ≡ Goes (clean (Ref 0 ∷ [])) (world (an_a Null ∷ []) [])
+  pub cast_null : does (Cast (codes "A")) (clean (Null ∷ [])) (world [] []) ≡ Goes (clean (Null ∷ [])) (world [] [])
+  pub cast_throws : does (Cast (codes "A")) (clean (Ref 0 ∷ [])) (world (a_lib ∷ []) (0 ∷ [])) ≡ Throws 1 (clean []) (world (a_lib ∷ a_lib ∷ []) (0 ∷ []))
+  pub cast_to_string : does (Cast (codes "java/lang/String")) (clean (Ref 0 ∷ [])) (world (a_lib ∷ []) []) ≡ Goes (clean (Ref 0 ∷ [])) (world (a_lib ∷ []) [])
+  pub instance_of : does InstanceOf (clean (Ref 0 ∷ [])) (world (a_lib ∷ []) []) ≡ Goes (clean (Prim false ∷ [])) (world (a_lib ∷ []) [])
+  pub monitor : does Monitor (clean (Ref 0 ∷ [])) (world (a_lib ∷ []) []) ≡ Goes (clean []) (world (a_lib ∷ []) [])
+  pub monitor_throws : does Monitor (clean (Null ∷ [])) (world [] []) ≡ Throws 0 (clean []) (world (a_lib ∷ []) [])
+  pub call_enters : does (call calling_f) (clean []) (world [] []) ≡ Enters 0 [] (clean []) (world [] [])
+  pub call_of_abstract : does (call (record calling_f { found = Some (Abstract (record { 0 = 0 })) })) (clean []) (world [] []) ≡ Throws 0 (clean []) (world (a_lib ∷ []) [])
+  pub special_call_of_static : does (call (record calling_f { kind = Special })) (clean (Ref 0 ∷ [])) (world (an_a Null ∷ []) []) ≡ NoRule
+  pub call_on_null : does (call calling_self) (clean (Null ∷ [])) (world [] []) ≡ Throws 0 (clean []) (world (a_lib ∷ []) [])
+  pub call_of_library : does (call calling_self) (clean (Ref 0 ∷ [])) (world (a_text ∷ []) []) ≡ Goes (clean (Ref 0 ∷ [])) (world (a_text ∷ []) [])
+  pub call_of_library_absorbs : does (call absorbing_self) (clean (Ref 0 ∷ [])) (world (a_lib ∷ []) (1 ∷ 1 ∷ 1 ∷ 0 ∷ [])) ≡
+      Goes (clean (Ref 0 ∷ [])) (wrote (world (object 3 [] false (0 ∷ []) ∷ []) []))
+  pub call_of_library_picks : does (call absorbing_self) (clean (Ref 0 ∷ [])) (world (a_lib ∷ []) (1 ∷ 0 ∷ 0 ∷ 0 ∷ [])) ≡ Goes (clean (Ref 0 ∷ [])) (wrote (world (a_lib ∷ []) []))
+  pub call_of_library_passes_over : does (call absorbing_self) (clean (Ref 0 ∷ [])) (world (a_lib ∷ []) (0 ∷ 0 ∷ [])) ≡ Goes (clean (Ref 0 ∷ [])) (world (a_lib ∷ []) [])
+  pub call_of_library_throws : does (call calling_self) (clean (Ref 0 ∷ [])) (world (a_text ∷ []) (1 ∷ [])) ≡ Throws 1 (clean []) (world (a_text ∷ a_lib ∷ []) [])
+  pub result_does_not_fit : does (call calling_self) (clean (Ref 0 ∷ [])) (world (references_to [] ∷ []) []) ≡ NoRule
