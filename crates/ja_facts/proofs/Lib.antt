@@ -1,0 +1,7 @@
+pub mod LeastLaws
+pub mod Counting
+pub mod ExampleFacts
+pub mod Loads
+pub mod Empty
+pub mod MoreMarks
+pub mod Joint

@@ -1,0 +1,115 @@
+ghost use Rattle.std.specs.Prelude.{◌≡◌, ◌++◌, [], ◌∷◌, List, Bool, true, false, ℕ, suc, ◌↔◌, IsTrue, codes};
+ghost use Rattle.ja_base.specs.declared.java_type.Kind.{Kind};
+ghost use Rattle.ja_ir.specs.declared.program.Parts.{Parts};
+ghost use Rattle.ja_ir.specs.declared.op.Op.TheVariants.{Load};
+ghost use Rattle.ja_ir.specs.Lookup.{OpAt};
+ghost use Rattle.ja_facts.specs.Least.{Least, Iterate, IsSolution};
+ghost use Rattle.ja_facts.specs.ClassSets.{Fact as ClassFact, Rule as ClassRule};
+ghost use Rattle.ja_facts.specs.Held.{Fact as HeldFact, Rule as HeldRule};
+ghost use Rattle.ja_facts.specs.Sharing.{Fact as HeapFact, Rule as HeapRule, PairRule, EffectRule, IsPair, IsEffect};
+ghost use Rattle.ja_facts.specs.Reaching.{Fact as ReachFact, Rule as ReachRule};
+ghost use Rattle.ja_facts.specs.Held.{OfField};
+ghost use Rattle.ja_facts.specs.Slots.{Local, OnStack};
+ghost use Rattle.ja_facts.specs.Formulas.{Assignment, IsNormalEnd};
+ghost use Rattle.ja_facts.specs.ClassTables.{empty_classes};
+ghost use Rattle.ja_facts.specs.FactTables.{empty_graph, empty_held, empty_pairs, empty_effects, empty_reach};
+ghost use Rattle.ja_facts.specs.Told.{TellsClass, TellsHeld, TellsHeap, TellsReach};
+ghost use Rattle.ja_ir.specs.declared.entry.Entry.{Entry};
+ghost use Rattle.ja_ir.specs.declared.entry.Site.{Site};
+ghost use Rattle.ja_facts.specs.Marks.{MarkMore, with_entries};
+ghost use Rattle.ja_facts.specs.Equations.{Fact, Rule, Context, At, Stored, Threw, Normal, IsWarned, nothing};
+ghost use Rattle.ja_facts.specs.Example.{Rules, example, example_site, only_lowest, clean_return, tainted_throw};
+ghost use Rattle.ja_facts.specs.Verdict.{AreVerdicts, report_text, total_text, printed, site_line};
+
+/// The least solution of the rules of class sets is one.
+pub fn law_least_is_solution()
+    ensures { (p : Parts) → IsSolution (ClassRule p) (Least (ClassRule p)) }
+{}
+
+/// The least solution of the rules of class sets lies below each set that a test tells and in which
+/// the rules hold.
+pub fn law_least_is_below()
+    ensures { (p : Parts) (set : ClassFact → Bool) → IsSolution (ClassRule p) (λ f. IsTrue (set f)) → (f : ClassFact) → Least (ClassRule p) f → IsTrue (set f) }
+{}
+
+/// The same of what tokens and fields hold, for the least class sets.
+pub fn law_held_is_solution()
+    ensures { (p : Parts) → IsSolution (HeldRule p (Least (ClassRule p))) (Least (HeldRule p (Least (ClassRule p)))) }
+{}
+
+/// The same of heap pairs and effects.
+pub fn law_sharing_is_solution()
+    ensures { (p : Parts) → IsSolution (HeapRule p (Least (ClassRule p))) (Least (HeapRule p (Least (ClassRule p)))) }
+{}
+
+/// The same of reachability, for the least class sets and the least pairs and effects.
+pub fn law_reaching_is_solution()
+    ensures { (p : Parts) → let classes = Least (ClassRule p) in let heaps = Least (HeapRule p classes) in IsSolution (ReachRule p classes heaps) (Least (ReachRule p classes heaps)) }
+{}
+
+/// The same of the equations of taint, for the least solutions of all others.
+pub fn law_equations_is_solution()
+    ensures { (p : Parts) → let classes = Least (ClassRule p) in let held = Least (HeldRule p classes) in let heaps = Least (HeapRule p classes) in let reach = Least (ReachRule p classes heaps) in IsSolution (Rule p classes held heaps reach) (Least (Rule p classes held heaps reach)) }
+{}
+
+/// A report of a program without sites is that without their lines, and a name of a letter, a blank
+/// and a backslash prints so.
+pub fn law_report_without_sites()
+    ensures none { (p : Parts) (flags : List Bool) → p.sites ≡ [] → report_text p flags ≡ total_text p flags }
+    ensures printed { printed (codes "a \\") ≡ codes "a\\x20\\x5c" }
+{}
+
+/// In the small program, the equations give the entry's context, the tainted text that its source
+/// pushes, the taint that is stored into the field and read again, the throw that leaves with it, and
+/// the return of the class initialiser. Its sink is warned, in this line of the report.
+pub fn law_example()
+    ensures context { Least Rules (Context 0 nothing) }
+    ensures pushed { Least Rules (At 0 1 nothing only_lowest) }
+    ensures stored { Least Rules (Stored (OfField 0)) }
+    ensures read { Least Rules (At 0 3 nothing only_lowest) }
+    ensures threw { Least Rules (Threw 0 nothing tainted_throw) }
+    ensures returned { Least Rules (Normal 1 nothing clean_return) }
+    ensures warned { IsWarned example (Least Rules) example_site }
+    ensures line { site_line example example_site true ≡ codes "warned A.main()V 9 demo/Taint.sink(Ljava/lang/String;)V\n" }
+{}
+
+/// The normal end of a load moves the truth with the value.
+pub fn law_load_moves()
+    ensures { (p : Parts) (m i l height : ℕ) (kind : Kind) (b after : Assignment) → let classes = Least (ClassRule p) in let heaps = Least (HeapRule p classes) in OpAt p m i (Load kind l) height → IsNormalEnd p classes heaps (Least (ReachRule p classes heaps)) m i b after → after.slot (OnStack height) ≡ b.slot (Local l) }
+{}
+
+/// A round of the rules of class sets keeps what the round before it gave.
+pub fn law_rounds_add()
+    ensures { (p : Parts) (n : ℕ) (f : ClassFact) → Iterate (ClassRule p) n f → Iterate (ClassRule p) (suc n) f }
+{}
+
+/// The class sets and the call graph of a program as they are made tell nothing.
+pub fn law_empty_tells_nothing()
+    ensures { (p : Parts) (f : ClassFact) → TellsClass p (empty_classes p) (empty_graph p) f → ⊥ }
+{}
+
+/// Where the entries mark more positions, the equations lose no fact, at the same class sets, held
+/// cells, pairs, effects and reachability.
+pub fn law_marks_lose_nothing()
+    ensures { (p : Parts) (entries : List Entry) → MarkMore p.entries entries → let classes = Least (ClassRule p) in let held = Least (HeldRule p classes) in let heaps = Least (HeapRule p classes) in let reach = Least (ReachRule p classes heaps) in (f : Fact) → Least (Rule p classes held heaps reach) f → Least (Rule (with_entries p entries) classes held heaps reach) f }
+{}
+
+/// The least pairs for the effects of the least joint solution are its pairs, and the least effects for
+/// its pairs are its effects.
+pub fn law_joint_is_fixed()
+    ensures pairs { (p : Parts) (f : HeapFact) → IsPair f → let classes = Least (ClassRule p) in let joint = Least (HeapRule p classes) in Least (PairRule p classes joint) f ↔ joint f }
+    ensures effects { (p : Parts) (f : HeapFact) → IsEffect f → let classes = Least (ClassRule p) in let joint = Least (HeapRule p classes) in Least (EffectRule p classes joint) f ↔ joint f }
+{}
+
+/// Held cells, pairs, effects and reachability of a program as they are made tell nothing.
+pub fn law_empty_heaps_tell_nothing()
+    ensures held { (p : Parts) (f : HeldFact) → TellsHeld p (empty_held p) f → ⊥ }
+    ensures heaps { (p : Parts) (f : HeapFact) → TellsHeap p (Least (ClassRule p)) (empty_pairs p) (empty_effects p) f → ⊥ }
+    ensures reach { (p : Parts) (f : ReachFact) → TellsReach p (empty_reach p) f → ⊥ }
+{}
+
+/// Where no fact holds no site is warned: flags that are all false are the verdicts of a program whose
+/// sites are one.
+pub fn law_nothing_warns()
+    ensures { (p : Parts) (site : Site) → p.sites ≡ site ∷ [] → AreVerdicts p (λ f. ⊥) (false ∷ []) }
+{}

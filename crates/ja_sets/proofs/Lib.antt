@@ -1,0 +1,5 @@
+pub mod Values
+pub mod Flags
+pub mod Squares
+pub mod Next
+pub mod Members
