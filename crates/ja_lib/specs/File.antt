@@ -1,0 +1,198 @@
+-- What a table file says: the rules for its keys, over the document that TOML reads in its bytes.
+use Rattle.std.specs.Prelude.{◌≡◌, ◌≢◌, ℕ, zero, suc, ◌<◌, nat_lt, ℤ, pos, Bool, true, false, not, ◌&&◌, ◌||◌, IsTrue, List, [], ◌∷◌, ◌++◌, length, Option, Some, None, option_map, option_and_then, Result, Ok, Err, bytes_eq, codes, if◌then◌else◌, ◌==◌, IsUtf8}
+use Rattle.std.specs.List.{list_any}
+use Rattle.toml.specs.Data.{Data, integer, Items, no_items, item, Members, no_members, member, get_member, as_str, as_bool, as_array, as_table}
+use Rattle.toml.specs.Parse.{parse_document}
+use Rattle.ja_bytes.specs.DescriptorText.{IsMethodText}
+use Rattle.ja_ir.specs.declared.row.LibRow.{LibRow}
+use Rattle.ja_ir.specs.declared.row.RowFlow.{RowFlow}
+use Rattle.ja_ir.specs.declared.row.RowFlow.TheVariants.{Always, Never, Args}
+use Rattle.ja_ir.specs.declared.row.RowEffect.{RowEffect}
+use Rattle.ja_ir.specs.declared.row.RowEffect.TheVariants.{Quiet, Absorb, Blend}
+use Rattle.ja_ir.specs.declared.row.RowResult.{RowResult}
+use Rattle.ja_ir.specs.declared.row.RowResult.TheVariants.{Fresh, Argument, Member, Any}
+use Rattle.ja_lib.specs.declared.row.TableRow.{TableRow}
+use Rattle.ja_lib.specs.declared.entry.EntryRow.{EntryRow}
+use Rattle.ja_lib.specs.declared.fault.TableFault.{TableFault}
+use Rattle.ja_lib.specs.declared.fault.TableFault.TheVariants.{Text, UnknownKey, BadRow, BadEntry, Memory}
+use Rattle.ja_lib.specs.Content.{Content}
+
+-- the bytes are a text in TOML of this document
+abbrev pub IsDocument : List ℕ → Members → Type 0
+IsDocument bytes document = IsUtf8 bytes × (parse_document bytes ≡ Some document)
+
+-- each key of a table is one of these
+abbrev pub keys_among : List (List ℕ) → Members → Bool
+keys_among names no_members = true
+keys_among names (member key value rest) = list_any (bytes_eq key) names && keys_among names rest
+
+-- the things that the items stand for, behind those seen: each is read from its item and from the things before it
+abbrev pub read_items : {A : Type 0} → (List A → Data → Option A) → List A → Items → Option (List A)
+read_items next seen no_items = Some seen
+read_items next seen (item value rest) = option_and_then (λ thing. read_items next (seen ++ thing ∷ []) rest) (next seen value)
+
+-- the list, if it is not empty
+abbrev pub if_filled : {A : Type 0} → List A → Option (List A)
+if_filled [] = None
+if_filled (x ∷ xs) = Some (x ∷ xs)
+
+-- a text
+abbrev pub any_text : Option Data → Option (List ℕ)
+any_text value = option_and_then as_str value
+
+-- a text that is not empty
+abbrev pub filled_text : Option Data → Option (List ℕ)
+filled_text value = option_and_then if_filled (any_text value)
+
+-- the texts of an array of texts alone
+abbrev pub texts_in : Items → Option (List (List ℕ))
+texts_in items = read_items (λ seen. as_str) [] items
+
+-- the texts of such an array that is not empty
+abbrev pub filled_texts : Option Data → Option (List (List ℕ))
+filled_texts value = option_and_then if_filled (option_and_then texts_in (option_and_then as_array value))
+
+-- a truth value, false where it is missing
+abbrev pub truth_at : Option Data → Option Bool
+truth_at None = Some false
+truth_at (Some value) = as_bool value
+
+-- a number from 0 to 254 that is not among those seen
+abbrev pub new_position : List ℕ → Data → Option ℕ
+new_position seen (integer (pos n)) = if nat_lt n 255 && not (list_any (λ s. s == n) seen) then Some n else None
+new_position seen _ = None
+
+-- the positions of an array: distinct numbers from 0 to 254
+abbrev pub positions_in : Items → Option (List ℕ)
+positions_in items = read_items new_position [] items
+
+-- the positions at a key, none where it is missing
+abbrev pub positions_at : Option Data → Option (List ℕ)
+positions_at None = Some []
+positions_at (Some value) = option_and_then positions_in (as_array value)
+
+-- when a call makes tainted things, by the file's word
+abbrev pub flow_word : List ℕ → Option RowFlow
+flow_word word =
+    if bytes_eq word (codes "always") then Some Always
+    else if bytes_eq word (codes "none") then Some Never
+    else if bytes_eq word (codes "args") then Some Args
+    else None
+
+-- where it is missing, tainted arguments make tainted things
+abbrev pub flow_at : Option Data → Option RowFlow
+flow_at None = Some Args
+flow_at (Some value) = option_and_then flow_word (as_str value)
+
+-- which objects a call may change, by the file's word
+abbrev pub effect_word : List ℕ → Option RowEffect
+effect_word word =
+    if bytes_eq word (codes "none") then Some Quiet
+    else if bytes_eq word (codes "absorb") then Some Absorb
+    else if bytes_eq word (codes "blend") then Some Blend
+    else None
+
+-- where it is missing, a call may change all that its arguments reach
+abbrev pub effect_at : Option Data → Option RowEffect
+effect_at None = Some Blend
+effect_at (Some value) = option_and_then effect_word (as_str value)
+
+-- what a call answers, by the file's word
+abbrev pub result_word : List ℕ → Option RowResult
+result_word word =
+    if bytes_eq word (codes "fresh") then Some Fresh
+    else if bytes_eq word (codes "self") then Some Argument
+    else if bytes_eq word (codes "member") then Some Member
+    else if bytes_eq word (codes "any") then Some Any
+    else None
+
+-- where it is missing, a call may answer anything
+abbrev pub result_at : Option Data → Option RowResult
+result_at None = Some Any
+result_at (Some value) = option_and_then result_word (as_str value)
+
+-- a value that is a text, and this method descriptor (JVM specification 4.3.3)
+abbrev pub IsDesc : Option Data → List ℕ → Type 0
+IsDesc value desc = (any_text value ≡ Some desc) × IsMethodText desc
+
+-- a method descriptor, or no value at all
+abbrev pub MayBeDesc : Option Data → Option (List ℕ) → Type 0
+MayBeDesc None desc = desc ≡ None
+MayBeDesc (Some value) None = ⊥
+MayBeDesc (Some value) (Some desc) = IsDesc (Some value) desc
+
+-- the value at a key of a table
+abbrev pub at : Members → List ℕ → Option Data
+at members key = get_member key members
+
+-- the keys of a row, and of an entry
+abbrev pub row_keys : List (List ℕ)
+row_keys = codes "class" ∷ codes "method" ∷ codes "desc" ∷ codes "flow" ∷ codes "effect" ∷ codes "result" ∷ codes "sink" ∷ []
+
+abbrev pub entry_keys : List (List ℕ)
+entry_keys = codes "class" ∷ codes "method" ∷ codes "desc" ∷ codes "static" ∷ codes "marked" ∷ []
+
+-- the members of a table of the file spell this row
+pub record SpellsRow (members : Members) (row : TableRow) : Type 0 where
+  pub keys : IsTrue (keys_among row_keys members)
+  pub classes : filled_texts (at members (codes "class")) ≡ Some row.classes
+  pub method : filled_text (at members (codes "method")) ≡ Some row.method
+  pub desc : MayBeDesc (at members (codes "desc")) row.desc
+  pub flow : flow_at (at members (codes "flow")) ≡ Some row.meaning.flow
+  pub effect : effect_at (at members (codes "effect")) ≡ Some row.meaning.effect
+  pub result : result_at (at members (codes "result")) ≡ Some row.meaning.result
+  pub sinks : positions_at (at members (codes "sink")) ≡ Some row.meaning.sinks
+
+-- the members of a table of the file spell this entry; only static methods may be of every class
+pub record SpellsEntry (members : Members) (entry : EntryRow) : Type 0 where
+  pub keys : IsTrue (keys_among entry_keys members)
+  pub class : any_text (at members (codes "class")) ≡ Some entry.class
+  pub method : filled_text (at members (codes "method")) ≡ Some entry.method
+  pub desc : IsDesc (at members (codes "desc")) entry.desc
+  pub is_static : truth_at (at members (codes "static")) ≡ Some entry.is_static
+  pub marked : positions_at (at members (codes "marked")) ≡ Some entry.marked
+  pub every_class : entry.class ≡ codes "*" → entry.is_static ≡ true
+
+-- the tables of an array of tables alone
+abbrev pub tables_in : Items → Option (List Members)
+tables_in items = read_items (λ seen. as_table) [] items
+
+-- the tables at a key, none where it is missing
+abbrev pub tables_at : Option Data → Option (List Members)
+tables_at None = Some []
+tables_at (Some value) = option_and_then tables_in (as_array value)
+
+-- the keys of the document
+abbrev pub top_keys : List (List ℕ)
+top_keys = codes "row" ∷ codes "entry" ∷ []
+
+-- the document has no key but those of rows and entries, and these tables there
+pub record HasTables (document : Members) (rows entries : List Members) : Type 0 where
+  pub keys : IsTrue (keys_among top_keys document)
+  pub are_rows : tables_at (at document (codes "row")) ≡ Some rows
+  pub are_entries : tables_at (at document (codes "entry")) ≡ Some entries
+
+-- each table spells the thing at its place
+abbrev pub SpellAll : {A : Type 0} → (Members → A → Type 0) → List Members → List A → Type 0
+SpellAll Spells [] [] = Unit {0}
+SpellAll Spells (t ∷ tables) (x ∷ things) = Spells t x × SpellAll Spells tables things
+SpellAll Spells _ _ = ⊥
+
+-- the table at this place is the first that spells nothing
+abbrev pub IsFirstWrong : {A : Type 0} → (Members → A → Type 0) → List Members → ℕ → Type 0
+IsFirstWrong Spells [] n = ⊥
+IsFirstWrong {A} Spells (t ∷ tables) zero = (x : A) → Spells t x → ⊥
+IsFirstWrong {A} Spells (t ∷ tables) (suc n) = (x : A) × Spells t x × IsFirstWrong Spells tables n
+
+-- what reading a table file answers
+abbrev pub IsAnswer : List ℕ → Result Content TableFault → Type 0
+IsAnswer bytes (Ok content) = (document : Members) × (rows : List Members) × (entries : List Members) ×
+    IsDocument bytes document × HasTables document rows entries × SpellAll SpellsRow rows content.rows × SpellAll SpellsEntry entries content.entries
+IsAnswer bytes (Err Text) = (document : Members) → IsDocument bytes document → ⊥
+IsAnswer bytes (Err UnknownKey) = (document : Members) × IsDocument bytes document ×
+    ((rows : List Members) (entries : List Members) → HasTables document rows entries → ⊥)
+IsAnswer bytes (Err (BadRow n)) = (document : Members) × (rows : List Members) × (entries : List Members) ×
+    IsDocument bytes document × HasTables document rows entries × IsFirstWrong SpellsRow rows n
+IsAnswer bytes (Err (BadEntry n)) = (document : Members) × (rows : List Members) × (entries : List Members) × (spelled : List TableRow) ×
+    IsDocument bytes document × HasTables document rows entries × SpellAll SpellsRow rows spelled × IsFirstWrong SpellsEntry entries n
+IsAnswer bytes (Err Memory) = Unit {0}

@@ -1,0 +1,5 @@
+pub mod Content
+pub mod Rows
+pub mod Defaults
+pub mod File
+pub mod Means

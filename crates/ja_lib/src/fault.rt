@@ -1,0 +1,28 @@
+use ja_base::Memory;
+use thiserror::Error;
+
+/// Why bytes are no table file.
+#[derive(Error, Debug, Drop, Clone, Copy, PartialEq, Eq)]
+pub enum TableFault {
+    /// The bytes are not UTF-8, or no text in TOML.
+    #[error("the table is not a text in TOML")]
+    Text,
+    /// A top-level key is unknown, or is no array of tables.
+    #[error("the table has a top-level key that is unknown or no array of tables")]
+    UnknownKey,
+    /// The first row, counted from 0, that breaks the rules for rows.
+    #[error("row {row} of the table breaks the rules for rows")]
+    BadRow { row: u64 },
+    /// The first entry, counted from 0, that breaks the rules for entries.
+    #[error("entry {entry} of the table breaks the rules for entries")]
+    BadEntry { entry: u64 },
+    /// Want of memory.
+    #[error("out of memory")]
+    Memory,
+}
+
+impl From<Memory> for TableFault {
+    fn from(_error: Memory) -> TableFault {
+        TableFault::Memory
+    }
+}
