@@ -5,3 +5,4 @@ pub mod Stuck
 pub mod Language
 pub mod MethodText
 pub mod DescParts
+pub mod Exact

@@ -161,7 +161,7 @@ params_stuck room rest n no_end stuck =
       none = λ text tail p e. let f = first_type room text tail p.params rest p.spells no_end e in stuck.none f.0 f.1 f.2 f.3;
     }
 
-words-some : (kind : Kind) → 1 ≤ words_of kind
+pub words-some : (kind : Kind) → 1 ≤ words_of kind
 words-some P1 = omega arith
 words-some P2 = omega arith
 words-some R = omega arith

@@ -109,6 +109,30 @@ class_named text class = named class.name class.class class.parts
         let is : name_of (76 ∷ text) ≡ c ∷ name = ap (λ (t : List ℕ). name_of (76 ∷ t)) e ∙ take_at (c ∷ name) (59 ∷ []) (length (name ++ 59 ∷ [])) (omega (arith, length-append name (59 ∷ []))) in
         rw is (h, ap (λ (t : List ℕ). 76 ∷ t) e)
 
+-- what begins with 'L' and is a type is a class name behind it
+class_behind : (kind : Kind) (text name x tail : List ℕ) → IsPlain text kind name → 76 ∷ x ≡ text ++ tail → (class : List ℕ) × IsClassText class × (x ≡ class ++ tail)
+class_behind P1 text name x tail h e = absurd (false≢true (letter_first is_word_letter text tail 76 x h.0 (sym e)))
+class_behind P2 text name x tail h e = absurd (false≢true (letter_first is_pair_letter text tail 76 x h.0 (sym e)))
+class_behind R text name x tail h e =
+    let whole : 76 ∷ x ≡ 76 ∷ ((name ++ 59 ∷ []) ++ tail) = e ∙ ap (λ (t : List ℕ). t ++ tail) h.1 in
+    (name ++ 59 ∷ [], record { name = name; class = h.0; parts = refl }, cc)
+class_behind T text name x tail h e = absurd h
+
+-- stuck in the class name behind 'L'
+pub class_stuck : (room : ℕ) (rest : List ℕ) (n : ℕ) → 1 ≤ room → IsStuck IsClassText rest n → IsStuck (IsPlainText room) (76 ∷ rest) (suc n)
+class_stuck room rest n some stuck =
+    let b = stuck.begins in
+    let next : suc n + 1 ≡ suc (n + 1) = omega arith in
+    record {
+      within = omega (arith, stuck.within);
+      begins = record { more = b.more; text = record { kind = R; name = name_of (76 ∷ (take n rest ++ b.more)); plain = class_named (take n rest ++ b.more) b.text; fits = some } };
+      dead = λ lt text more tail p e.
+          let left : 76 ∷ (take (n + 1) rest ++ more) ≡ text ++ tail = ap (λ (k : ℕ). take k (76 ∷ rest) ++ more) (sym next) ∙ e in
+          let c = class_behind p.kind text p.name (take (n + 1) rest ++ more) tail p.plain left in
+          stuck.dead (omega (arith, lt)) c.0 more tail c.1 c.2;
+      none = λ text tail p e. let c = class_behind p.kind text p.name rest tail p.plain e in stuck.none c.0 tail c.1 c.2;
+    }
+
 bracket_named : (text : List ℕ) → name_of (91 ∷ text) ≡ 91 ∷ text
 bracket_named [] = refl
 bracket_named (b ∷ text) = refl

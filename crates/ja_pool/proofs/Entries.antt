@@ -39,11 +39,11 @@ slots-push base offset (d ∷ es) e =
     ap (λ (t : List Slot). slot_of base offset d ∷ pad_slots d t) (one ∙ ap (λ (o : ℕ). slots_from base (offset + length (spelling d)) es ++ new o) place)
     ∙ ap (λ (t : List Slot). slot_of base offset d ∷ t) (sym (pad-append d (slots_from base (offset + length (spelling d)) es) (new (offset + length (spelling d ++ flat_map spelling es)))))
 
-each-push : (es : List Entry) (e : Entry) → AllByRecursion IsEntry es → IsEntry e → AllByRecursion IsEntry (es ++ e ∷ [])
+pub each-push : (es : List Entry) (e : Entry) → AllByRecursion IsEntry es → IsEntry e → AllByRecursion IsEntry (es ++ e ∷ [])
 each-push [] e each one = (one, tt)
 each-push (d ∷ es) e each one = (each.0, each-push es e each.1 one)
 
-spelled-push : (es : List Entry) (e : Entry) → flat_map spelling (es ++ e ∷ []) ≡ flat_map spelling es ++ spelling e
+pub spelled-push : (es : List Entry) (e : Entry) → flat_map spelling (es ++ e ∷ []) ≡ flat_map spelling es ++ spelling e
 spelled-push es e = flat_map-append spelling es (e ∷ []) ∙ ap (λ (t : List ℕ). flat_map spelling es ++ t) (append-nil (spelling e))
 
 -- one more is read

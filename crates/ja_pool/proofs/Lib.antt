@@ -3,3 +3,4 @@ pub mod Entries
 pub mod Tables
 pub mod ReadParts
 pub mod OneReading
+pub mod Exact

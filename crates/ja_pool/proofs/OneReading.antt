@@ -19,7 +19,7 @@ use Rattle.ja_pool.proofs.PayloadParts.{one_of_each, number_fields, wide_fields,
 
 -- ---- numbers
 
-be_unique_2 : (a b : ℕ) (x y : List ℕ) → a < 2 ^ 16 → b < 2 ^ 16 → to_be_bytes w16 a ++ x ≡ to_be_bytes w16 b ++ y → (a ≡ b) × (x ≡ y)
+pub be_unique_2 : (a b : ℕ) (x y : List ℕ) → a < 2 ^ 16 → b < 2 ^ 16 → to_be_bytes w16 a ++ x ≡ to_be_bytes w16 b ++ y → (a ≡ b) × (x ≡ y)
 be_unique_2 a b x y p q e =
     let bytes : to_be_bytes w16 a ≡ to_be_bytes w16 b = sym (take_at (to_be_bytes w16 a) x 2 refl) ∙ ap (take 2) e ∙ take_at (to_be_bytes w16 b) y 2 refl in
     (sym (from_be_bytes-to_be_bytes_2 a p) ∙ ap (from_be_bytes w16) bytes ∙ from_be_bytes-to_be_bytes_2 b q, sym (drop_at (to_be_bytes w16 a) x 2 refl) ∙ ap (drop 2) e ∙ drop_at (to_be_bytes w16 b) y 2 refl)
@@ -35,7 +35,7 @@ be_unique_8 a b x y p q e =
     (sym (from_be_bytes-to_be_bytes_8 a p) ∙ ap (from_be_bytes w64) bytes ∙ from_be_bytes-to_be_bytes_8 b q, sym (drop_at (to_be_bytes w64 a) x 8 refl) ∙ ap (drop 8) e ∙ drop_at (to_be_bytes w64 b) y 8 refl)
 
 -- two texts behind their lengths
-text_unique : (a b x y : List ℕ) → length a < 2 ^ 16 → length b < 2 ^ 16 → to_be_bytes w16 (length a) ++ (a ++ x) ≡ to_be_bytes w16 (length b) ++ (b ++ y) → (a ≡ b) × (x ≡ y)
+pub text_unique : (a b x y : List ℕ) → length a < 2 ^ 16 → length b < 2 ^ 16 → to_be_bytes w16 (length a) ++ (a ++ x) ≡ to_be_bytes w16 (length b) ++ (b ++ y) → (a ≡ b) × (x ≡ y)
 text_unique a b x y p q e =
     let one = be_unique_2 (length a) (length b) (a ++ x) (b ++ y) p q e in
     let text : a ≡ b = sym (take_at a x (length a) refl) ∙ ap (take (length a)) one.1 ∙ take_at b y (length a) (sym one.0) in
@@ -94,10 +94,10 @@ entry_unique d e x y p q h =
 -- ---- entries one after another
 
 -- the indices that entries take
-abbrev size : List Entry → ℕ
+abbrev pub size : List Entry → ℕ
 size es = length (entries_from 0 es)
 
-pad-length : (e : Entry) (table : Table) → length (pad e table) ≡ length (pad e []) + length table
+pub pad-length : (e : Entry) (table : Table) → length (pad e table) ≡ length (pad e []) + length table
 pad-length (utf8 bytes) table = omega arith
 pad-length (number tag bits) table = omega arith
 pad-length (wide tag bits) table = omega arith
@@ -110,18 +110,18 @@ size-anywhere place other [] = refl
 size-anywhere place other (e ∷ es) =
     omega (arith, pad-length e (entries_from (place + length (spelling e)) es), pad-length e (entries_from (other + length (spelling e)) es), size-anywhere (place + length (spelling e)) (other + length (spelling e)) es)
 
-size-cons : (e : Entry) (es : List Entry) → size (e ∷ es) ≡ suc (length (pad e []) + size es)
+pub size-cons : (e : Entry) (es : List Entry) → size (e ∷ es) ≡ suc (length (pad e []) + size es)
 size-cons e es = omega (arith, pad-length e (entries_from (0 + length (spelling e)) es), size-anywhere (0 + length (spelling e)) 0 es)
 
 -- the next entry of a longer list
-record Next (bytes : List ℕ) (before total : ℕ) : Type 0 where
-  entry : Entry
-  rest : List ℕ
-  is_entry : IsEntry entry
-  parts : bytes ≡ spelling entry ++ rest
-  fits : before + suc (length (pad entry [])) ≤ total
+pub record Next (bytes : List ℕ) (before total : ℕ) : Type 0 where
+  pub entry : Entry
+  pub rest : List ℕ
+  pub is_entry : IsEntry entry
+  pub parts : bytes ≡ spelling entry ++ rest
+  pub fits : before + suc (length (pad entry [])) ≤ total
 
-next : (ds es : List Entry) (x y : List ℕ) → AllByRecursion IsEntry ds → AllByRecursion IsEntry es → flat_map spelling ds ++ x ≡ flat_map spelling es ++ y → size es < size ds → Next y (size es) (size ds)
+pub next : (ds es : List Entry) (x y : List ℕ) → AllByRecursion IsEntry ds → AllByRecursion IsEntry es → flat_map spelling ds ++ x ≡ flat_map spelling es ++ y → size es < size ds → Next y (size es) (size ds)
 next [] es x y p q e lt = absurd (omega (arith, lt))
 next (d ∷ ds) [] x y p q e lt = record {
   entry = d;
@@ -136,7 +136,7 @@ next (d ∷ ds) (c ∷ es) x y p q e lt =
     let n = next ds es x y p.1 q.1 one.1 (omega (arith, lt, size-cons d ds, size-cons c es, width)) in
     record { entry = n.entry; rest = n.rest; is_entry = n.is_entry; parts = n.parts; fits = omega (arith, n.fits, size-cons d ds, size-cons c es, width) }
 
-same_entries : (ds es : List Entry) (x y : List ℕ) → AllByRecursion IsEntry ds → AllByRecursion IsEntry es → flat_map spelling ds ++ x ≡ flat_map spelling es ++ y → size ds ≡ size es → (ds ≡ es) × (x ≡ y)
+pub same_entries : (ds es : List Entry) (x y : List ℕ) → AllByRecursion IsEntry ds → AllByRecursion IsEntry es → flat_map spelling ds ++ x ≡ flat_map spelling es ++ y → size ds ≡ size es → (ds ≡ es) × (x ≡ y)
 same_entries [] [] x y p q e same = (refl, e)
 same_entries [] (c ∷ es) x y p q e same = absurd (omega (arith, same, size-cons c es))
 same_entries (d ∷ ds) [] x y p q e same = absurd (omega (arith, same, size-cons d ds))
@@ -152,7 +152,7 @@ no_cut_one : (len place : ℕ) (bytes : List ℕ) (at : ℕ) → len ≤ length 
 no_cut_one len place bytes at fits (inl h) = omega (arith, fits, h.0)
 no_cut_one len place bytes at fits (inr h) = h.1
 
-no_cut_two : (len more place : ℕ) (bytes : List ℕ) (at : ℕ) → len + more ≤ length bytes → EndsInside (len ∷ more ∷ []) place bytes at → ⊥
+pub no_cut_two : (len more place : ℕ) (bytes : List ℕ) (at : ℕ) → len + more ≤ length bytes → EndsInside (len ∷ more ∷ []) place bytes at → ⊥
 no_cut_two len more place bytes at fits (inl h) = omega (arith, fits, h.0)
 no_cut_two len more place bytes at fits (inr h) = no_cut_one more (place + len) (drop len bytes) at (omega (arith, fits, length-drop len bytes)) h.1
 
@@ -207,18 +207,18 @@ no_fault place last e rest (faults.BadText at) p narrow h = no_wrong_text e h.1 
 no_fault place last e rest (faults.BadIndex at) p narrow h = h
 no_fault place last e rest faults.Memory p narrow h = h
 
-no_fault_at : (place : ℕ) (last : Bool) (e : Entry) (rest bytes : List ℕ) (fault : PoolFault) → bytes ≡ spelling e ++ rest → IsEntry e → (last ≡ true → length (pad e []) ≡ 0) → IsEntryFault place last bytes fault → ⊥
+pub no_fault_at : (place : ℕ) (last : Bool) (e : Entry) (rest bytes : List ℕ) (fault : PoolFault) → bytes ≡ spelling e ++ rest → IsEntry e → (last ≡ true → length (pad e []) ≡ 0) → IsEntryFault place last bytes fault → ⊥
 no_fault_at place last e rest bytes fault parts p narrow h = no_fault place last e rest fault p narrow (subst (λ (t : List ℕ). IsEntryFault place last t fault) parts h)
 
 -- ---- pools
 
-count_unique : (old new at : Reading) (m n : ℕ) (ds es : List Entry) → PassesEntries old new m ds → PassesEntries old at n es → (m ≡ n) × (flat_map spelling ds ++ new.rest ≡ flat_map spelling es ++ at.rest)
+pub count_unique : (old new at : Reading) (m n : ℕ) (ds es : List Entry) → PassesEntries old new m ds → PassesEntries old at n es → (m ≡ n) × (flat_map spelling ds ++ new.rest ≡ flat_map spelling es ++ at.rest)
 count_unique old new at m n ds es p q = be_unique_2 m n (flat_map spelling ds ++ new.rest) (flat_map spelling es ++ at.rest) p.fits q.fits (sym p.parts ∙ q.parts)
 
-table_size : (place : ℕ) (es : List Entry) → length (table_of place es) ≡ suc (size es)
+pub table_size : (place : ℕ) (es : List Entry) → length (table_of place es) ≡ suc (size es)
 table_size place es = ap suc (size-anywhere (place + 2) 0 es)
 
-no_count_fault : (old new : Reading) (count : ℕ) (es : List Entry) (fault : PoolFault) → PassesEntries old new count es → IsCountFault old fault → ⊥
+pub no_count_fault : (old new : Reading) (count : ℕ) (es : List Entry) (fault : PoolFault) → PassesEntries old new count es → IsCountFault old fault → ⊥
 no_count_fault old new count es fault p (inl h) = omega (arith, h.0, ap length p.parts, length-append (to_be_bytes w16 count) (flat_map spelling es ++ new.rest))
 no_count_fault old new count es fault p (inr h) =
     let one = be_unique_2 count 0 (flat_map spelling es ++ new.rest) h.0 p.fits (omega arith) (sym p.parts ∙ h.1) in
@@ -233,7 +233,7 @@ no_entry_fault old new table fault pool f =
     no_fault_at f.at.place (length (table_of old.place f.entries) + 1 == f.count) n.entry n.rest f.at.rest fault n.parts n.is_entry
     (λ last. omega (arith, eqb-true _ _ last, n.fits, before, total, one.0)) f.fault_is
 
-same_pool : (old new at : Reading) (m n : ℕ) (ds es : List Entry) → PassesEntries old new m ds → PassesEntries old at n es → m ≡ length (table_of old.place ds) → length (table_of old.place es) ≡ n
+pub same_pool : (old new at : Reading) (m n : ℕ) (ds es : List Entry) → PassesEntries old new m ds → PassesEntries old at n es → m ≡ length (table_of old.place ds) → length (table_of old.place es) ≡ n
     → (ds ≡ es) × (new.rest ≡ at.rest)
 same_pool old new at m n ds es p q full_p full_q =
     let one = count_unique old new at m n ds es p q in
@@ -253,7 +253,7 @@ pool_no_fault old new table fault pool (inl h) = no_count_fault old new (length 
 pool_no_fault old new table fault pool (inr (inl h)) = no_entry_fault old new table fault pool h
 pool_no_fault old new table fault pool (inr (inr h)) = no_index_fault old new table fault pool h
 
-same_reading : (a b : Reading) → a.place ≡ b.place → a.rest ≡ b.rest → a ≡ b
+pub same_reading : (a b : Reading) → a.place ≡ b.place → a.rest ≡ b.rest → a ≡ b
 same_reading a b p r = let make : ℕ → List ℕ → Reading = λ n t. record { place = n; rest = t } in ap (λ (n : ℕ). make n a.rest) p ∙ ap (make b.place) r
 
 -- a pool has one table, and one end
