@@ -1,5 +1,7 @@
 -- The table of opcodes, row by row.
-use Rattle.std.proofs.Common.{◌≡◌, ℕ, zero, suc, ◌+◌, ◌<◌, List, [], ◌∷◌, get_or, map, Option, Some, refl, ap, ◌∙◌, arith, Bor}
+use Rattle.std.proofs.Common.{◌≡◌, ℕ, zero, suc, ◌+◌, ◌<◌, List, [], ◌∷◌, get_or, map, Option, Some, cond, not, bytes_eq, refl, ap, ◌∙◌, arith, Bor}
+use Rattle.std.proofs.lemmas.List.{length-map}
+use Rattle.std.specs.List.{position, prefix_len}
 use Rattle.ja_code.specs.declared.opcode.Form.{Form}
 use Rattle.ja_code.specs.Opcode.{form_at}
 
@@ -29,3 +31,14 @@ pub mnemonic_in_row : (xs : List (Bor (List ℕ) × Form)) (i : ℕ) (d : Bor (L
 mnemonic_in_row [] i d = refl
 mnemonic_in_row (x ∷ xs) zero d = refl
 mnemonic_in_row (x ∷ xs) (suc i) d = mnemonic_in_row xs i d
+
+-- how many mnemonics stand before a given one
+before_row : (xs : List (Bor (List ℕ) × Form)) (text : List ℕ)
+    → prefix_len (λ (r : Bor (List ℕ) × Form). not (bytes_eq r.0.now text)) xs ≡ prefix_len (λ m. not (bytes_eq m text)) (map (λ (r : Bor (List ℕ) × Form). r.0.now) xs)
+before_row [] text = refl
+before_row (x ∷ xs) text = ap (λ n. cond (not (bytes_eq x.0.now text)) (1 + n) 0) (before_row xs text)
+
+-- the place of a mnemonic among those of a table
+pub place_of_row : (xs : List (Bor (List ℕ) × Form)) (text : List ℕ)
+    → position (λ (r : Bor (List ℕ) × Form). bytes_eq r.0.now text) xs ≡ position (λ m. bytes_eq m text) (map (λ (r : Bor (List ℕ) × Form). r.0.now) xs)
+place_of_row xs text = rw (before_row xs text, ← length-map xs (λ (r : Bor (List ℕ) × Form). r.0.now)) refl

@@ -1,5 +1,5 @@
 -- The mnemonics of the opcodes (JVM specification, 6.5 and 7).
-use Rattle.std.specs.Prelude.{ℕ, List, [], ◌∷◌, codes}
+use Rattle.std.specs.Prelude.{ℕ, List, [], ◌∷◌, Option, bytes_eq, codes, position}
 use Rattle.std.specs.List.{slice_index_or}
 
 -- the mnemonics by opcode, from 0 on
@@ -45,3 +45,7 @@ mnemonics =
 -- the mnemonic of an opcode
 unfoldable pub mnemonic_at : ℕ → List ℕ
 mnemonic_at op = slice_index_or mnemonics op []
+
+-- the opcode with a mnemonic; none where no opcode has it
+unfoldable pub opcode_for : List ℕ → Option ℕ
+opcode_for text = position (λ mnemonic. bytes_eq mnemonic text) mnemonics

@@ -1,6 +1,6 @@
-ghost use Rattle.std.specs.Prelude.{◌≡◌, ◌<◌, ◌↔◌, IsSome, IfSome};
+ghost use Rattle.std.specs.Prelude.{◌≡◌, ◌<◌, ◌↔◌, IsSome, IfSome, bytes_eq, length, map, position};
 ghost use Rattle.ja_code.specs.Opcode.{form_at};
-ghost use Rattle.ja_code.specs.Mnemonic.{mnemonic_at};
+ghost use Rattle.ja_code.specs.Mnemonic.{mnemonic_at, opcode_for};
 ghost use Rattle.ja_code.specs.Grammar.{is_refused};
 
 /// What an index of an instruction must name in the constant pool (JVM specification 4.4 and 6.5).
@@ -286,6 +286,33 @@ pub fn mnemonic_of(opcode: u8) -> Option<&'static str>
     }
     let (mnemonic, _) = OPCODES[opcode as usize];
     Some(mnemonic)
+}
+
+/// The place of the row with a mnemonic.
+fn row_of(rows: &[(&str, Form)], mnemonic: &[u8]) -> Option<usize>
+    ensures place { result ≡ position (λ row. bytes_eq row.0.now mnemonic.now) rows.now }
+    ensures inside { IfSome result (λ place. place < length rows.now) }
+{
+    rows.iter()
+        .position(|(text, _)| text.as_bytes() == mnemonic)
+}
+
+/// The place of a mnemonic among those of the rows.
+fn place_of(rows: &[(&str, Form)], mnemonic: &[u8]) -> Option<usize>
+    ensures place { result ≡ position (λ text. bytes_eq text mnemonic.now) (map (λ row. row.0.now) rows.now) }
+    ensures inside { IfSome result (λ place. place < length rows.now) }
+{
+    row_of(rows, mnemonic)
+}
+
+/// The opcode with a mnemonic; None where no opcode has it.
+pub fn opcode_of(mnemonic: &[u8]) -> Option<u8>
+    ensures { result ≡ opcode_for mnemonic.now }
+{
+    match place_of(&OPCODES, mnemonic) {
+        Some(place) => Some(place as u8),
+        None => None,
+    }
 }
 
 const JSR: u8 = 168;

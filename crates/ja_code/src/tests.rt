@@ -161,5 +161,6 @@ fn forms(rt: HostRuntime) {
     assert!(rt; form_of(196) == Some(Form::Wide));
     assert!(rt; form_of(202).is_none());
     assert!(rt; mnemonic_of(201) == Some("jsr_w") && mnemonic_of(202).is_none());
+    assert!(rt; opcode_of(b"jsr_w") == Some(201) && opcode_of(b"jsr_").is_none());
     assert!(rt; is_refused_opcode(169) && !is_refused_opcode(170));
 }
