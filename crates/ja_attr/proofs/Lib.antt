@@ -1,0 +1,11 @@
+pub mod Parts
+pub mod Completes
+pub mod Exact
+pub mod Heads
+pub mod Fields
+pub mod Codes
+pub mod Lists
+pub mod Answered
+pub mod FieldGrammar
+pub mod CodeGrammar
+pub mod MethodGrammar

@@ -1,0 +1,4 @@
+pub mod Part
+pub mod Attribute
+pub mod Faults
+pub mod Steps
