@@ -7,3 +7,9 @@ pub mod LayoutLaws
 pub mod FrameLaws
 pub mod Utf8Laws
 pub mod MethodLaws
+mod Descriptors
+mod Counted
+mod AttributesExact
+pub mod PartsExact
+mod MembersSpelled
+mod FileSpelled

@@ -4,3 +4,8 @@ pub mod Instruction
 pub mod FirstForm
 pub mod Views
 pub mod Reading
+pub mod Faults
+pub mod Member
+pub mod Meaning
+pub mod ClassFile
+pub mod ClassFault

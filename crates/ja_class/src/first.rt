@@ -10,7 +10,7 @@ mod names;
 mod pool;
 mod reader;
 #[cfg(test)]
-mod tests;
+pub(crate) mod tests;
 
 use constant::Constant;
 use ja_base::{Name, Seq};

@@ -2,7 +2,7 @@ use super::*;
 use std::test::*;
 
 /// `A.main` passes the source's text to the sink.
-const TAINTED: &[u8] = b"\
+pub(crate) const TAINTED: &[u8] = b"\
     \xca\xfe\xba\xbe\x00\x00\x004\x00\x12\
     \x01\x00\x01A\
     \x07\x00\x01\

@@ -6,7 +6,7 @@ use std::fs::Files;
 use std::io::{self, ErrorKind};
 
 /// The directory and the number of rounds, 0 where none is given.
-pub fn text_word<R: Env + AllocGlobal>(rt: &R) -> io::Result<(Name, u64)> {
+pub fn directory_and_rounds<R: Env + AllocGlobal>(rt: &R) -> io::Result<(Name, u64)> {
     let mut dir = Name::from_vec(Vec::new(rt.alloc()));
     let mut rounds = 0;
     for (at, word) in env::args(rt)?.enumerate() {
