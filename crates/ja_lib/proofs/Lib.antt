@@ -1,0 +1,4 @@
+pub mod Among
+pub mod OneAnswer
+pub mod Places
+pub mod Reading

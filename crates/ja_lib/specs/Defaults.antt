@@ -1,5 +1,5 @@
 -- The table that stands where a folder has none of its own.
-use Rattle.std.specs.Prelude.{ℕ, Bool, true, false, List, [], ◌∷◌, ◌++◌, Option, Some, None, codes, map}
+use Rattle.std.specs.Prelude.{ℕ, true, false, List, [], ◌∷◌, ◌++◌, Option, Some, None, codes, map}
 use Rattle.ja_ir.specs.declared.row.LibRow.{LibRow}
 use Rattle.ja_ir.specs.declared.row.RowFlow.{RowFlow}
 use Rattle.ja_ir.specs.declared.row.RowFlow.TheVariants.{Always, Never, Args}

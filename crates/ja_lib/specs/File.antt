@@ -1,7 +1,7 @@
 -- What a table file says: the rules for its keys, over the document that TOML reads in its bytes.
-use Rattle.std.specs.Prelude.{◌≡◌, ◌≢◌, ℕ, zero, suc, ◌<◌, nat_lt, ℤ, pos, Bool, true, false, not, ◌&&◌, ◌||◌, IsTrue, List, [], ◌∷◌, ◌++◌, length, Option, Some, None, option_map, option_and_then, Result, Ok, Err, bytes_eq, codes, if◌then◌else◌, ◌==◌, IsUtf8}
+use Rattle.std.specs.Prelude.{◌≡◌, ℕ, zero, suc, nat_lt, ℤ, pos, negsuc, Bool, true, false, ◌&&◌, IsTrue, List, [], ◌∷◌, ◌++◌, Option, Some, None, option_and_then, bytes_eq, codes, if◌then◌else◌, ◌==◌, IsUtf8}
 use Rattle.std.specs.List.{list_any}
-use Rattle.toml.specs.Data.{Data, integer, Items, no_items, item, Members, no_members, member, get_member, as_str, as_bool, as_array, as_table}
+use Rattle.toml.specs.Data.{Data, Items, no_items, item, Members, no_members, member, get_member, as_str, as_bool, as_integer, as_array, as_table}
 use Rattle.toml.specs.Parse.{parse_document}
 use Rattle.ja_bytes.specs.DescriptorText.{IsMethodText}
 use Rattle.ja_ir.specs.declared.row.LibRow.{LibRow}
@@ -57,10 +57,18 @@ abbrev pub truth_at : Option Data → Option Bool
 truth_at None = Some false
 truth_at (Some value) = as_bool value
 
--- a number from 0 to 254 that is not among those seen
+-- a number from 0 to 254
+abbrev pub position : ℤ → Option ℕ
+position (pos n) = if nat_lt n 255 then Some n else None
+position (negsuc n) = None
+
+-- a number that is not among those seen
+abbrev pub unseen : List ℕ → ℕ → Option ℕ
+unseen seen n = if list_any (λ s. s == n) seen then None else Some n
+
+-- a value that is a number from 0 to 254, and not among those seen
 abbrev pub new_position : List ℕ → Data → Option ℕ
-new_position seen (integer (pos n)) = if nat_lt n 255 && not (list_any (λ s. s == n) seen) then Some n else None
-new_position seen _ = None
+new_position seen value = option_and_then (unseen seen) (option_and_then position (as_integer value))
 
 -- the positions of an array: distinct numbers from 0 to 254
 abbrev pub positions_in : Items → Option (List ℕ)
@@ -132,16 +140,20 @@ row_keys = codes "class" ∷ codes "method" ∷ codes "desc" ∷ codes "flow" �
 abbrev pub entry_keys : List (List ℕ)
 entry_keys = codes "class" ∷ codes "method" ∷ codes "desc" ∷ codes "static" ∷ codes "marked" ∷ []
 
+-- the members of a table of the file say that a call does this
+pub record SpellsMeaning (members : Members) (meaning : LibRow) : Type 0 where
+  pub flow : flow_at (at members (codes "flow")) ≡ Some meaning.flow
+  pub effect : effect_at (at members (codes "effect")) ≡ Some meaning.effect
+  pub result : result_at (at members (codes "result")) ≡ Some meaning.result
+  pub sinks : positions_at (at members (codes "sink")) ≡ Some meaning.sinks
+
 -- the members of a table of the file spell this row
 pub record SpellsRow (members : Members) (row : TableRow) : Type 0 where
   pub keys : IsTrue (keys_among row_keys members)
   pub classes : filled_texts (at members (codes "class")) ≡ Some row.classes
   pub method : filled_text (at members (codes "method")) ≡ Some row.method
   pub desc : MayBeDesc (at members (codes "desc")) row.desc
-  pub flow : flow_at (at members (codes "flow")) ≡ Some row.meaning.flow
-  pub effect : effect_at (at members (codes "effect")) ≡ Some row.meaning.effect
-  pub result : result_at (at members (codes "result")) ≡ Some row.meaning.result
-  pub sinks : positions_at (at members (codes "sink")) ≡ Some row.meaning.sinks
+  pub meaning : SpellsMeaning members row.meaning
 
 -- the members of a table of the file spell this entry; only static methods may be of every class
 pub record SpellsEntry (members : Members) (entry : EntryRow) : Type 0 where
@@ -184,15 +196,44 @@ IsFirstWrong Spells [] n = ⊥
 IsFirstWrong {A} Spells (t ∷ tables) zero = (x : A) → Spells t x → ⊥
 IsFirstWrong {A} Spells (t ∷ tables) (suc n) = (x : A) × Spells t x × IsFirstWrong Spells tables n
 
--- what reading a table file answers
-abbrev pub IsAnswer : List ℕ → Result Content TableFault → Type 0
-IsAnswer bytes (Ok content) = (document : Members) × (rows : List Members) × (entries : List Members) ×
-    IsDocument bytes document × HasTables document rows entries × SpellAll SpellsRow rows content.rows × SpellAll SpellsEntry entries content.entries
-IsAnswer bytes (Err Text) = (document : Members) → IsDocument bytes document → ⊥
-IsAnswer bytes (Err UnknownKey) = (document : Members) × IsDocument bytes document ×
-    ((rows : List Members) (entries : List Members) → HasTables document rows entries → ⊥)
-IsAnswer bytes (Err (BadRow n)) = (document : Members) × (rows : List Members) × (entries : List Members) ×
-    IsDocument bytes document × HasTables document rows entries × IsFirstWrong SpellsRow rows n
-IsAnswer bytes (Err (BadEntry n)) = (document : Members) × (rows : List Members) × (entries : List Members) × (spelled : List TableRow) ×
-    IsDocument bytes document × HasTables document rows entries × SpellAll SpellsRow rows spelled × IsFirstWrong SpellsEntry entries n
-IsAnswer bytes (Err Memory) = Unit {0}
+-- the document is a table of this content
+pub record SpellsContent (document : Members) (content : Content) : Type 0 where
+  pub rows : List Members
+  pub entries : List Members
+  pub tables : HasTables document rows entries
+  pub all_rows : SpellAll SpellsRow rows content.rows
+  pub all_entries : SpellAll SpellsEntry entries content.entries
+
+-- the document has tables of rows, the first wrong one of which stands at this place
+pub record HasWrongRow (document : Members) (place : ℕ) : Type 0 where
+  pub rows : List Members
+  pub entries : List Members
+  pub tables : HasTables document rows entries
+  pub wrong : IsFirstWrong SpellsRow rows place
+
+-- the document has tables of rows, none of them wrong, and of entries, the first wrong one of which stands at this place
+pub record HasWrongEntry (document : Members) (place : ℕ) : Type 0 where
+  pub rows : List Members
+  pub entries : List Members
+  pub tables : HasTables document rows entries
+  pub spelled : List TableRow
+  pub all_rows : SpellAll SpellsRow rows spelled
+  pub wrong : IsFirstWrong SpellsEntry entries place
+
+-- what is wrong with a document, the first fault by the order: the keys, the rows, the entries; want of memory may always be
+abbrev pub IsFaultIn : Members → TableFault → Type 0
+IsFaultIn document Text = ⊥
+IsFaultIn document UnknownKey = (rows : List Members) (entries : List Members) → HasTables document rows entries → ⊥
+IsFaultIn document (BadRow n) = HasWrongRow document n
+IsFaultIn document (BadEntry n) = HasWrongEntry document n
+IsFaultIn document Memory = Unit {0}
+
+-- the bytes are a table file of this content
+abbrev pub IsTableFile : List ℕ → Content → Type 0
+IsTableFile bytes content = (document : Members) × IsDocument bytes document × SpellsContent document content
+
+-- what is wrong with bytes: no text in TOML, or the first fault in its document; want of memory may always be
+abbrev pub IsFaultOf : List ℕ → TableFault → Type 0
+IsFaultOf bytes Text = (document : Members) → IsDocument bytes document → ⊥
+IsFaultOf bytes Memory = Unit {0}
+IsFaultOf bytes fault = (document : Members) × IsDocument bytes document × IsFaultIn document fault

@@ -3,3 +3,5 @@ pub mod Rows
 pub mod Defaults
 pub mod File
 pub mod Means
+pub mod Reading
+pub mod Index

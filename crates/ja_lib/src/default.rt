@@ -330,5 +330,5 @@ fn default_entries(alloc: Global) -> Result<EntryRows, Memory>
 pub fn default_table(alloc: Global) -> Result<Table, Memory>
     ensures { IfOk result (λ table. table ≡ default_content) }
 {
-    Ok(Table::new(default_rows(alloc)?, default_entries(alloc)?))
+    Table::new(alloc, default_rows(alloc)?, default_entries(alloc)?)
 }

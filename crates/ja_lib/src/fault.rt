@@ -22,6 +22,11 @@ pub enum TableFault {
 }
 
 impl From<Memory> for TableFault {
+    ghost use Rattle.std.specs.Prelude.{◌≡◌};
+    ghost use Rattle.ja_lib.specs.declared.fault.TableFault.TheVariants as faults;
+
+    ghost from_gives = { λ _ e. e ≡ faults.Memory };
+
     fn from(_error: Memory) -> TableFault {
         TableFault::Memory
     }

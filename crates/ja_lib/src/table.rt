@@ -1,9 +1,12 @@
-ghost use Rattle.std.specs.Prelude.{◌≡◌, IsTrue, ◌↔◌, option_copied, bytes_eq};
-ghost use Rattle.ja_lib.specs.Rows.{is_for_class, is_for_method, is_for_desc, fits, row_for};
+ghost use Rattle.std.specs.Prelude.{◌≡◌, ◌&&◌, slice_get, option_copied, IfOk};
+ghost use Rattle.ja_lib.specs.Rows.{is_for_method, is_for_desc, row_for};
+ghost use Rattle.ja_lib.specs.Index.{first_at};
 
-use crate::{EntryRow, EntryRows, TableRow, TableRows};
-use ja_base::Name;
+use crate::index::{PlacesByClass, places_by_class};
+use crate::{EntryRows, TableRow, TableRows};
+use ja_base::{Memory, Name};
 use ja_ir::LibRow;
+use std::alloc::Global;
 use std::marker::Model;
 
 /// What the calls of library methods do, and which methods the environment may call.
@@ -11,6 +14,7 @@ use std::marker::Model;
 pub struct Table {
     rows: TableRows,
     entries: EntryRows,
+    index: PlacesByClass,
 }
 
 impl Model for Table {
@@ -18,25 +22,33 @@ impl Model for Table {
 
     ghost Value = { Content };
 
+    ghost use Rattle.ja_lib.specs.Index.{IsIndexOf};
+
     ghost view = { λ table. record { rows = table.rows; entries = table.entries } };
+
+    ghost invariant = { λ table. IsIndexOf table.rows table.index };
 }
 
 impl Table {
-    /// The table of these rows and entries. It takes no memory.
-    pub fn new(rows: TableRows, entries: EntryRows) -> Table
-        ensures { result ≡ record { rows = rows; entries = entries } }
+    /// The table of these rows and entries.
+    pub fn new(alloc: Global, rows: TableRows, entries: EntryRows) -> Result<Table, Memory>
+        ensures { IfOk result (λ table. table ≡ record { rows = rows; entries = entries }) }
     {
-        Table { rows, entries }
+        let index = places_by_class(alloc, rows.as_slice())?;
+        Ok(Table {
+            rows,
+            entries,
+            index,
+        })
     }
 
     /// What the first row that fits a call of this method says, and `None` where no row fits. It takes
-    /// no memory.
+    /// no memory, and looks only at the rows that list the class.
     pub fn row_of(&self, class: &Name, method: &Name, desc: &Name) -> Option<&LibRow>
         ensures { option_copied result ≡ row_for self.now.rows class.now method.now desc.now }
     {
-        let rows = self.rows.as_slice();
-        match rows.iter().find(|row| row.fits(class, method, desc)) {
-            Some(row) => Some(&row.meaning),
+        match self.index.get(class) {
+            Some(places) => first_row(&self.rows, places.as_slice(), method, desc),
             None => None,
         }
     }
@@ -49,18 +61,41 @@ impl Table {
     }
 }
 
-impl TableRow {
-    /// Whether the row speaks of this method of this class.
-    fn fits(&self, class: &Name, method: &Name, desc: &Name) -> bool
-        ensures { result ≡ fits class.now method.now desc.now self.now }
-    {
-        self.is_for_class(class) && self.is_for_method(method) && self.is_for_desc(desc)
+/// The row at a place, if it is there.
+fn row_at(rows: &TableRows, place: u64) -> Option<&TableRow>
+    ensures { option_copied result ≡ slice_get rows.now place }
+{
+    if place < rows.len() {
+        Some(rows.at(place))
+    } else {
+        None
     }
+}
 
-    fn is_for_class(&self, class: &Name) -> bool
-        ensures { result ≡ is_for_class class.now self.now }
+/// What the first of the rows at these places that is for this method says.
+fn first_row<'a>(
+    rows: &'a TableRows,
+    places: &[u64],
+    method: &Name,
+    desc: &Name,
+) -> Option<&'a LibRow>
+    ensures { option_copied result ≡ first_at rows.now method.now desc.now places.now }
+{
+    for place in places {
+        if let Some(row) = row_at(rows, *place) {
+            if row.is_for(method, desc) {
+                return Some(&row.meaning);
+            }
+        }
+    }
+    None
+}
+
+impl TableRow {
+    fn is_for(&self, method: &Name, desc: &Name) -> bool
+        ensures { result ≡ (is_for_method method.now self.now && is_for_desc desc.now self.now) }
     {
-        self.classes.as_slice().iter().any(|listed| listed == class)
+        self.is_for_method(method) && self.is_for_desc(desc)
     }
 
     fn is_for_method(&self, method: &Name) -> bool

@@ -1,0 +1,165 @@
+use crate::{Table, TableFault, default_table, read_table};
+use ja_base::{Memory, Name};
+use ja_ir::{RowEffect, RowFlow, RowResult};
+use std::alloc::Global;
+use std::test::Fail;
+
+fn fault_of(alloc: Global, bytes: &[u8]) -> Option<TableFault> {
+    match read_table(alloc, bytes) {
+        Ok(_) => None,
+        Err(fault) => Some(fault),
+    }
+}
+
+/// What the table says of a call, with the number of sinks.
+fn said(
+    alloc: Global,
+    table: &Table,
+    class: &[u8],
+    method: &[u8],
+    desc: &[u8],
+) -> Result<Option<(RowFlow, RowEffect, RowResult, u64)>, Memory> {
+    let class = Name::of(alloc, class)?;
+    let method = Name::of(alloc, method)?;
+    let desc = Name::of(alloc, desc)?;
+    match table.row_of(&class, &method, &desc) {
+        Some(row) => Ok(Some((row.flow, row.effect, row.result, row.sinks.len()))),
+        None => Ok(None),
+    }
+}
+
+#[test]
+fn broken_files(rt: HostRuntime) {
+    let second: &[u8] =
+        b"[[row]]\nclass = ['A']\nmethod = 'm'\n[[row]]\nclass = ['A']\nmethod = 'm'\nflow = 'maybe'\n[[entry]]\n";
+    let third: &[u8] =
+        b"[[entry]]\nclass = 'A'\nmethod = 'm'\ndesc = '()V'\n[[entry]]\nclass = '*'\nstatic = true\nmethod = '*'\ndesc = '()V'\n[[entry]]\n";
+    let cases: [(&[u8], Option<TableFault>); 16] = [
+        (b"# \xff", Some(TableFault::Text)),
+        (b"row = ", Some(TableFault::Text)),
+        (b"[[row]", Some(TableFault::Text)),
+        (b"row = []\nrow = []", Some(TableFault::Text)),
+        (
+            b"row = [{ sink = [99999999999999999999] }]",
+            Some(TableFault::Text),
+        ),
+        (b"rows = []", Some(TableFault::UnknownKey)),
+        (b"row = 1", Some(TableFault::UnknownKey)),
+        (b"[row]", Some(TableFault::UnknownKey)),
+        (b"row = [{}, 1]", Some(TableFault::UnknownKey)),
+        (b"row = []\nentry = [[]]", Some(TableFault::UnknownKey)),
+        (b"row = [{}]\nentries = []", Some(TableFault::UnknownKey)),
+        (second, Some(TableFault::BadRow { row: 1 })),
+        (third, Some(TableFault::BadEntry { entry: 2 })),
+        (b"", None),
+        (b"row = []\nentry = []", None),
+        (
+            b"row = [{ class = [''], method = '*', sink = [254, 0] }]",
+            None,
+        ),
+    ];
+    for (bytes, fault) in &cases {
+        assert_eq!(rt; fault_of(rt.alloc(), bytes), *fault);
+    }
+}
+
+#[test]
+fn broken_rows(rt: HostRuntime) {
+    let rows = [
+        "row = [{ method = 'm' }]",
+        "row = [{ class = [], method = 'm' }]",
+        "row = [{ class = 'A', method = 'm' }]",
+        "row = [{ class = ['A', 1], method = 'm' }]",
+        "row = [{ class = ['A'] }]",
+        "row = [{ class = ['A'], method = '' }]",
+        "row = [{ class = ['A'], method = 'm', kind = 'a' }]",
+        "row = [{ class = ['A'], method = 'm', static = true }]",
+        "row = [{ class = ['A'], method = 'm', desc = 'I' }]",
+        "row = [{ class = ['A'], method = 'm', desc = 1 }]",
+        "row = [{ class = ['A'], method = 'm', flow = 'self' }]",
+        "row = [{ class = ['A'], method = 'm', effect = 'args' }]",
+        "row = [{ class = ['A'], method = 'm', result = 'none' }]",
+        "row = [{ class = ['A'], method = 'm', sink = 1 }]",
+        "row = [{ class = ['A'], method = 'm', sink = [-1] }]",
+        "row = [{ class = ['A'], method = 'm', sink = [255] }]",
+        "row = [{ class = ['A'], method = 'm', sink = [3, 4, 3] }]",
+        "row = [{ class = ['A'], method = 'm', sink = [1.0] }]",
+        "row = [{ class = ['A'], method = 'm', sink = [2026-01-01] }]",
+    ];
+    for text in &rows {
+        assert_eq!(rt;
+            fault_of(rt.alloc(), text.as_bytes()),
+            Some(TableFault::BadRow { row: 0 })
+        );
+    }
+}
+
+#[test]
+fn broken_entries(rt: HostRuntime) {
+    let entries = [
+        "entry = [{ class = '*', method = 'm', desc = '()V' }]",
+        "entry = [{ class = '*', method = 'm', desc = '()V', static = false }]",
+        "entry = [{ class = ['A'], method = 'm', desc = '()V' }]",
+        "entry = [{ class = 'A', method = '', desc = '()V' }]",
+        "entry = [{ class = 'A', method = 'm' }]",
+        "entry = [{ class = 'A', method = 'm', desc = '()' }]",
+        "entry = [{ class = 'A', method = 'm', desc = '()V', static = 1 }]",
+        "entry = [{ class = 'A', method = 'm', desc = '()V', marked = [0, 0] }]",
+        "entry = [{ class = 'A', method = 'm', desc = '()V', sink = [0] }]",
+    ];
+    for text in &entries {
+        assert_eq!(rt;
+            fault_of(rt.alloc(), text.as_bytes()),
+            Some(TableFault::BadEntry { entry: 0 })
+        );
+    }
+}
+
+#[test]
+fn a_table_of_ones_own(rt: HostRuntime) -> Result<(), Fail> {
+    let alloc = rt.alloc();
+    let text =
+        b"[[row]]\nclass = ['com/example/Db', 'com/example/Old']\nmethod = 'query'\nflow = 'none'\neffect = 'absorb'\nresult = 'self'\nsink = [2, 1]\n[[entry]]\nclass = 'com/example/Handler'\nmethod = 'handle'\ndesc = '(I)V'\nmarked = [1]\n";
+    let table = read_table(alloc, text)?;
+    let row = said(alloc, &table, b"com/example/Old", b"query", b"()V")?;
+    assert!(rt;
+        matches!(
+            row,
+            Some((RowFlow::Never, RowEffect::Absorb, RowResult::Argument, 2))
+        )
+    );
+    let row = said(alloc, &table, b"query", b"query", b"()V")?;
+    assert!(rt; row.is_none());
+    assert_eq!(rt; table.entries().len(), 1);
+    let entry = table.entries().at(0);
+    assert!(rt; entry.class.bytes() == b"com/example/Handler".as_slice());
+    assert!(rt; !entry.is_static);
+    assert!(rt; entry.method.bytes() == b"handle".as_slice());
+    assert!(rt; entry.desc.bytes() == b"(I)V".as_slice());
+    assert!(rt; entry.marked.as_slice() == [1].as_slice());
+    Ok(())
+}
+
+#[test]
+fn default_look_ups(rt: HostRuntime) -> Result<(), Fail> {
+    let alloc = rt.alloc();
+    let table = default_table(alloc)?;
+    let row = said(alloc, &table, b"java/lang/String", b"length", b"()I")?;
+    assert!(rt;
+        matches!(
+            row,
+            Some((RowFlow::Args, RowEffect::Quiet, RowResult::Fresh, 0))
+        )
+    );
+    let row = said(alloc, &table, b"java/lang/Object", b"<init>", b"(I)V")?;
+    assert!(rt; row.is_none());
+    let row = said(alloc, &table, b"java/lang/Object", b"<init>", b"()V")?;
+    assert!(rt;
+        matches!(
+            row,
+            Some((RowFlow::Never, RowEffect::Quiet, RowResult::Fresh, 0))
+        )
+    );
+    assert_eq!(rt; table.entries().len(), 5);
+    Ok(())
+}
