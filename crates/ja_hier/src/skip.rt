@@ -1,0 +1,10 @@
+/// Which methods a look-up passes over.
+#[derive(Clone, Copy, PartialEq, Eq)]
+pub enum Skip {
+    /// None.
+    Nothing,
+    /// Private and static methods, which no virtual call selects.
+    NotVirtual,
+    /// Private, static and abstract methods, which no class inherits from an interface as code.
+    NoDefault,
+}
