@@ -2,5 +2,8 @@ pub mod Meets
 pub mod Explores
 pub mod Marked
 pub mod Finds
-pub mod Events
+pub mod Kept
+pub mod Runs
+pub mod Later
 pub mod Longer
+pub mod Actions

@@ -19,7 +19,7 @@ use Rattle.ja_machine.specs.Reach.{links, is_reached}
 use Rattle.ja_machine.specs.State.{World, Event, Outcome, Returned, Threw, Stuck, Cut, with_object}
 use Rattle.ja_machine.specs.Objects.{default_of, new_object, Made, fresh}
 use Rattle.ja_machine.specs.Step.{object_grown}
-use Rattle.ja_machine.specs.Run.{call_run, events_in}
+use Rattle.ja_machine.specs.Run.{call_run, world_in, events_in}
 
 -- an object that the environment has: its place, and whether it is noted, that is, made with a mark or round a noted object
 pub record Known : Type 0 where
@@ -281,3 +281,8 @@ program_run p actions = after p (first_state p) actions
 abbrev pub events_of : State → List Event
 events_of (Idle rest) = rest.events
 events_of (Over outcome) = events_in outcome
+
+-- the objects of a program run so far
+abbrev pub heap_in : State → List Object
+heap_in (Idle rest) = rest.heap
+heap_in (Over outcome) = (world_in outcome).heap

@@ -22,7 +22,7 @@ use Rattle.ja_ir.specs.Examples.{class, method, at, named}
 use Rattle.ja_machine.specs.declared.heap.Value.{Value}
 use Rattle.ja_machine.specs.declared.heap.Value.TheVariants.{Prim, Null, Ref}
 use Rattle.ja_machine.specs.State.{World, Event, Point, Outcome, Returned, Threw, Stuck, Cut}
-use Rattle.ja_machine.specs.Run.{call_run, events_in}
+use Rattle.ja_machine.specs.Run.{call_run, world_in, events_in}
 use Rattle.ja_machine.specs.Environment.{Initialize, Create, Make, CallEntry, GiveNull, GiveObject, Rest, Attempt, Refused, MadeNew, Ran, attempt, program_run, events_of}
 
 -- the type of texts
@@ -89,6 +89,19 @@ call_f = Call (record {
   name = codes "f";
   desc = codes "(LN;)V";
   params = named (codes "N") ∷ [];
+  result = None;
+  row = record { flow = Args; effect = Quiet; result = Fresh; sinks = [] };
+  found = Some (Program (record { 0 = 0 }));
+})
+
+-- a static call of program method 0 without arguments
+abbrev pub call_thrower : Op
+call_thrower = Call (record {
+  kind = Static;
+  class = codes "E";
+  name = codes "f";
+  desc = codes "()V";
+  params = [];
   result = None;
   row = record { flow = Args; effect = Quiet; result = Fresh; sinks = [] };
   found = Some (Program (record { 0 = 0 }));
@@ -188,6 +201,24 @@ catching catch = record {
   sites = site 0 5 ∷ [];
 }
 
+-- a method throws something tainted; the main method calls it, catches what it throws and gives it to the sink
+abbrev pub throwing : Parts
+throwing = record {
+  classes = [];
+  methods =
+      method 0 (codes "f") (codes "()V") 0x0009 0 1 (at 0 source (1 ∷ []) 0 ∷ at 1 Throw [] 1 ∷ []) []
+      ∷ method 0 (codes "main") (codes "()V") 0x0009 0 1 (at 0 call_thrower (1 ∷ []) 0 ∷ at 1 (Return None) [] 0 ∷ at 2 sink (1 ∷ []) 1 ∷ [])
+      (record { start = 0; end = 1; target = 2; catch = Everything } ∷ [])
+      ∷ [];
+  fields = [];
+  entries = [];
+  sites = site 1 2 ∷ [];
+}
+
+-- a marked text is there, and no choice is left
+abbrev pub with_marked_text : World
+with_marked_text = record (empty_world []) { heap = record { token = record { 0 = 0 }; fields = []; mark = true; bag = [] } ∷ [] }
+
 -- two entries with one parameter of a library class: the first appends something tainted to it, the second gives it to the sink
 abbrev pub sharing : Parts
 sharing = record {
@@ -219,10 +250,7 @@ before i stack = record {
 
 -- the places of the objects that a run has written
 abbrev pub written_in : Outcome → List ℕ
-written_in (Returned value dirt world left) = world.written
-written_in (Threw place dirt world left) = world.written
-written_in (Stuck innermost callers world) = world.written
-written_in (Cut innermost callers world) = world.written
+written_in outcome = (world_in outcome).written
 
 -- what stands before the first action
 abbrev pub nothing_yet : Rest
@@ -259,6 +287,10 @@ pub record ProgramsRun : Type 0 where
   -- a handler of a library class catches it or lets it pass
   pub caught_by_library_class : events_in (call_run (catching InLibrary) 0 [] (empty_world (0 ∷ 0 ∷ 1 ∷ 1 ∷ 0 ∷ 0 ∷ 0 ∷ 0 ∷ [])) 20) ≡ tainted_event
   pub passed_library_class : events_in (call_run (catching InLibrary) 0 [] (empty_world (0 ∷ 0 ∷ 1 ∷ 1 ∷ 0 ∷ 0 ∷ 0 ∷ 1 ∷ [])) 20) ≡ []
+  -- what a callee throws leaves it and is caught by its caller; a run that ends with its last step is not cut
+  pub caught_from_callee : events_in (call_run throwing 1 [] (empty_world []) 20) ≡ tainted_event
+  pub thrown_out : call_run throwing 0 [] (empty_world []) 2 ≡ Threw 0 false with_marked_text 0
+  pub cut_before : call_run throwing 0 [] (empty_world []) 1 ≡ Cut (before 1 (Ref 0 ∷ [])) [] with_marked_text
   -- a mix of a reference is stuck, and so is a text after which no instruction comes, with the world from before it
   pub mix_of_reference : call_run (running (at 0 (Const R) (1 ∷ []) 0 ∷ at 1 (Mix 1 P1 false) (2 ∷ []) 1 ∷ at 2 (Return None) [] 1 ∷ [])) 0 [] (empty_world []) 20 ≡ Stuck (before 1 (Null ∷ [])) [] (empty_world [])
   pub text_without_next : call_run (running (at 0 Text [] 0 ∷ [])) 0 [] (empty_world []) 20 ≡ Stuck (before 0 []) [] (empty_world [])

@@ -4,14 +4,18 @@ use Rattle.ja_base.specs.declared.java_type.Kind.TheVariants.{P1, R}
 use Rattle.ja_ir.specs.declared.program.Parts.{Parts}
 use Rattle.ja_ir.specs.declared.class.Field.{Field}
 use Rattle.ja_ir.specs.declared.class.MethodAt.TheVariants.{Program, Abstract}
-use Rattle.ja_ir.specs.declared.row.RowFlow.TheVariants.{Args}
-use Rattle.ja_ir.specs.declared.row.RowEffect.TheVariants.{Quiet, Absorb}
-use Rattle.ja_ir.specs.declared.row.RowResult.TheVariants.{Argument}
+use Rattle.ja_ir.specs.declared.row.RowFlow.{RowFlow}
+use Rattle.ja_ir.specs.declared.row.RowFlow.TheVariants.{Always, Args}
+use Rattle.ja_ir.specs.declared.row.RowEffect.{RowEffect}
+use Rattle.ja_ir.specs.declared.row.RowEffect.TheVariants.{Quiet, Absorb, Blend}
+use Rattle.ja_ir.specs.declared.row.RowResult.{RowResult}
+use Rattle.ja_ir.specs.declared.row.RowResult.TheVariants.{Fresh, Argument, Member, Any}
 use Rattle.ja_ir.specs.declared.op.CallOp.{CallOp}
-use Rattle.ja_ir.specs.declared.op.CallKind.TheVariants.{Virtual, Special, Static}
+use Rattle.ja_ir.specs.declared.op.CallKind.{CallKind}
+use Rattle.ja_ir.specs.declared.op.CallKind.TheVariants.{Virtual, Special, Static, StaticField, MemberField}
 use Rattle.ja_ir.specs.declared.op.Op.{Op}
 use Rattle.ja_ir.specs.declared.op.Op.TheVariants.{Nop, Const, Text, New, Load, Store, ArrLoad, ArrStore, Shuffle, Mix, Branch, Return, GetStatic, PutStatic, GetField, PutField, Call, NewArray, ArrLen, Throw, Cast, InstanceOf, Monitor}
-use Rattle.ja_ir.specs.Examples.{class, method}
+use Rattle.ja_ir.specs.Examples.{class, method, named}
 use Rattle.ja_machine.specs.declared.heap.Value.{Value}
 use Rattle.ja_machine.specs.declared.heap.Value.TheVariants.{Prim, Null, Ref}
 use Rattle.ja_machine.specs.declared.heap.FieldValue.{FieldValue}
@@ -21,11 +25,11 @@ use Rattle.ja_machine.specs.Run.{act}
 use Rattle.ja_machine.specs.Examples.{string}
 
 -- a class A with a field a, and a static field s of type java/lang/String; an interface I. Token 0 is A, 1 is I, 2 a text, 3 a library object,
--- 4 an array of references and 5 an array of primitives. Method 0 is static, and its code is empty
+-- 4 an array of references and 5 an array of primitives. Method 0 is static, method 1 is not, and their code is empty
 abbrev pub tiny : Parts
 tiny = record {
   classes = class (codes "A") 0x0021 (0 ∷ []) [] ∷ class (codes "I") 0x0601 (1 ∷ []) [] ∷ [];
-  methods = method 0 (codes "f") (codes "()V") 0x0008 0 0 [] [] ∷ [];
+  methods = method 0 (codes "f") (codes "()V") 0x0008 0 0 [] [] ∷ method 0 (codes "f") (codes "()V") 0 0 0 [] [] ∷ [];
   fields = field (codes "a") (codes "I") 0 ∷ field (codes "s") (codes "Ljava/lang/String;") 0x0008 ∷ [];
   entries = [];
   sites = [];
@@ -112,13 +116,34 @@ calling_self = record {
 abbrev pub absorbing_self : CallOp
 absorbing_self = record calling_self { row = record { flow = Args; effect = Absorb; result = Argument; sinks = [] } }
 
--- a choice of 1 lets an operation throw that may
+-- a call of this kind that found method 1
+abbrev pub calling_member : CallKind → CallOp
+calling_member kind = record calling_f { kind = kind; found = Some (Program (record { 0 = 1 })) }
+
+-- the same library call by another row
+abbrev pub by_row : RowFlow → RowEffect → RowResult → CallOp
+by_row flow effect result = record calling_self { row = record { flow = flow; effect = effect; result = result; sinks = [] } }
+
+-- a library call that answers a new object of any kind
+abbrev pub making_object : CallOp
+making_object = record (by_row Args Quiet Fresh) { result = Some (named (codes "java/lang/Object")) }
+
+-- a read of a library field with a text
+abbrev pub reading_field : CallKind → CallOp
+reading_field kind = record (by_row Args Quiet Fresh) { kind = kind; desc = codes "Ljava/lang/String;" }
+
+-- a write of such a field
+abbrev pub writing_field : CallOp
+writing_field = record (by_row Args Absorb Fresh) { kind = MemberField; desc = codes "Ljava/lang/String;"; params = string ∷ []; result = None }
+
+-- what operations come to in single instances; a choice of 1 lets one throw that may
 pub record OperationsDo : Type 0 where
   pub nop : does Nop (clean []) (world [] []) ≡ Goes (clean []) (world [] [])
   pub const_null : does (Const R) (clean []) (world [] []) ≡ Goes (clean (Null ∷ [])) (world [] [])
   pub const_number : does (Const P1) (clean []) (world [] []) ≡ Goes (clean (Prim false ∷ [])) (world [] [])
   pub text : does Text (clean []) (world [] []) ≡ Goes (clean (Ref 0 ∷ [])) (world (a_text ∷ []) [])
   pub new : does (New (record { 0 = 0 })) (clean []) (world [] []) ≡ Goes (clean (Ref 0 ∷ [])) (world (an_a (Prim false) ∷ []) [])
+  pub new_of_library : does (New (record { 0 = 3 })) (clean []) (world [] []) ≡ Goes (clean (Ref 0 ∷ [])) (world (a_lib ∷ []) [])
   pub new_throws : does (New (record { 0 = 0 })) (clean []) (world [] (1 ∷ [])) ≡ Throws 0 (clean []) (world (a_lib ∷ []) [])
   pub new_interface_throws : does (New (record { 0 = 1 })) (clean []) (world [] (0 ∷ [])) ≡ Throws 0 (clean []) (world (a_lib ∷ []) (0 ∷ []))
   pub load : does (Load P1 1) (clean []) (world [] []) ≡ Goes (clean (Prim true ∷ [])) (world [] [])
@@ -137,35 +162,52 @@ pub record OperationsDo : Type 0 where
   pub throw_null : does Throw (clean (Null ∷ [])) (world [] []) ≡ Throws 0 (clean []) (world (a_lib ∷ []) [])
   pub get_field : does (GetField (record { 0 = 0 })) (clean (Ref 0 ∷ [])) (world (an_a (Prim true) ∷ []) []) ≡ Goes (clean (Prim true ∷ [])) (world (an_a (Prim true) ∷ []) [])
   pub get_field_throws : does (GetField (record { 0 = 0 })) (clean (Null ∷ [])) (world [] []) ≡ Throws 0 (clean []) (world (a_lib ∷ []) [])
+  pub get_field_throws_by_choice : does (GetField (record { 0 = 0 })) (clean (Ref 0 ∷ [])) (world (an_a (Prim true) ∷ []) (1 ∷ [])) ≡ Throws 1 (clean []) (world (an_a (Prim true) ∷ a_lib ∷ []) [])
   pub get_field_of_another : does (GetField (record { 0 = 0 })) (clean (Ref 0 ∷ [])) (world (a_text ∷ []) []) ≡ NoRule
   pub put_field : does (PutField (record { 0 = 0 })) (clean (Prim true ∷ Ref 0 ∷ [])) (world (an_a (Prim false) ∷ []) []) ≡ Goes (dirty []) (wrote (world (an_a (Prim true) ∷ []) []))
   pub put_field_of_equal_value : does (PutField (record { 0 = 0 })) (clean (Prim false ∷ Ref 0 ∷ [])) (world (an_a (Prim false) ∷ []) []) ≡ Goes (clean []) (wrote (world (an_a (Prim false) ∷ []) []))
   pub put_field_throws : does (PutField (record { 0 = 0 })) (clean (Prim true ∷ Null ∷ [])) (world [] []) ≡ Throws 0 (clean []) (world (a_lib ∷ []) [])
+  pub put_field_throws_by_choice : does (PutField (record { 0 = 0 })) (clean (Prim true ∷ Ref 0 ∷ [])) (world (an_a (Prim false) ∷ []) (1 ∷ [])) ≡ Throws 1 (clean []) (world (an_a (Prim false) ∷ a_lib ∷ []) [])
+  pub put_field_of_another : does (PutField (record { 0 = 0 })) (clean (Prim true ∷ Ref 0 ∷ [])) (world (a_text ∷ []) []) ≡ NoRule
   pub get_static : does (GetStatic (record { 0 = 1 })) (clean []) (world [] []) ≡ Goes (clean (Null ∷ [])) (world [] [])
   pub get_static_of_member : does (GetStatic (record { 0 = 0 })) (clean []) (world [] []) ≡ NoRule
   pub put_static : does (PutStatic (record { 0 = 1 })) (clean (Ref 0 ∷ [])) (world (a_text ∷ []) []) ≡
       Goes (clean []) (record { heap = a_text ∷ []; statics = Prim false ∷ Ref 0 ∷ []; choices = []; events = []; written = []; set = 1 ∷ [] })
+  pub put_static_of_member : does (PutStatic (record { 0 = 0 })) (clean (Prim false ∷ [])) (world [] []) ≡ NoRule
   pub new_array : does (NewArray (record { 0 = 5 }) 2) (clean (Prim false ∷ Prim false ∷ [])) (world [] []) ≡ Goes (clean (Ref 1 ∷ [])) (world (primitives false ∷ references_to (0 ∷ []) ∷ []) [])
   pub new_array_throws : does (NewArray (record { 0 = 5 }) 1) (clean (Prim false ∷ [])) (world [] (1 ∷ [])) ≡ Throws 0 (clean []) (world (a_lib ∷ []) [])
   pub array_load : does (ArrLoad R) (clean (Prim false ∷ Ref 0 ∷ [])) (world (references_to (1 ∷ []) ∷ a_text ∷ []) (0 ∷ 1 ∷ [])) ≡ Goes (clean (Ref 1 ∷ [])) (world (references_to (1 ∷ []) ∷ a_text ∷ []) [])
   pub array_load_null_element : does (ArrLoad R) (clean (Prim false ∷ Ref 0 ∷ [])) (world (references_to [] ∷ []) (0 ∷ 1 ∷ [])) ≡ Goes (clean (Null ∷ [])) (world (references_to [] ∷ []) (1 ∷ []))
   pub array_load_number : does (ArrLoad P1) (clean (Prim false ∷ Ref 0 ∷ [])) (world (primitives true ∷ []) []) ≡ Goes (clean (Prim true ∷ [])) (world (primitives true ∷ []) [])
   pub array_load_throws : does (ArrLoad R) (clean (Prim false ∷ Null ∷ [])) (world [] []) ≡ Throws 0 (clean []) (world (a_lib ∷ []) [])
+  pub array_load_throws_by_choice : does (ArrLoad R) (clean (Prim false ∷ Ref 0 ∷ [])) (world (references_to (1 ∷ []) ∷ a_text ∷ []) (1 ∷ 1 ∷ [])) ≡ Throws 2 (clean []) (world (references_to (1 ∷ []) ∷ a_text ∷ a_lib ∷ []) (1 ∷ []))
+  pub array_load_of_another : does (ArrLoad P1) (clean (Prim false ∷ Ref 0 ∷ [])) (world (references_to [] ∷ []) []) ≡ NoRule
   pub array_store : does (ArrStore R) (clean (Ref 1 ∷ Prim false ∷ Ref 0 ∷ [])) (world (references_to [] ∷ a_text ∷ []) []) ≡ Goes (clean []) (wrote (world (references_to (1 ∷ []) ∷ a_text ∷ []) []))
   pub array_store_number : does (ArrStore P1) (clean (Prim true ∷ Prim false ∷ Ref 0 ∷ [])) (world (primitives false ∷ []) []) ≡ Goes (dirty []) (wrote (world (primitives true ∷ []) []))
   pub array_store_throws : does (ArrStore R) (clean (Null ∷ Prim false ∷ Ref 0 ∷ [])) (world (references_to [] ∷ []) (1 ∷ [])) ≡ Throws 1 (clean []) (world (references_to [] ∷ a_lib ∷ []) [])
+  pub array_store_on_null : does (ArrStore R) (clean (Null ∷ Prim false ∷ Null ∷ [])) (world [] []) ≡ Throws 0 (clean []) (world (a_lib ∷ []) [])
+  pub array_store_in_another : does (ArrStore R) (clean (Null ∷ Prim false ∷ Ref 0 ∷ [])) (world (primitives true ∷ []) []) ≡ NoRule
   pub array_length : does ArrLen (clean (Ref 0 ∷ [])) (world (primitives true ∷ []) []) ≡ Goes (clean (Prim false ∷ [])) (world (primitives true ∷ []) [])
   pub array_length_throws : does ArrLen (clean (Null ∷ [])) (world [] []) ≡ Throws 0 (clean []) (world (a_lib ∷ []) [])
+  pub array_length_throws_by_choice : does ArrLen (clean (Ref 0 ∷ [])) (world (primitives true ∷ []) (1 ∷ [])) ≡ Throws 1 (clean []) (world (primitives true ∷ a_lib ∷ []) [])
   pub cast : does (Cast (codes "A")) (clean (Ref 0 ∷ [])) (world (an_a Null ∷ []) []) ≡ Goes (clean (Ref 0 ∷ [])) (world (an_a Null ∷ []) [])
   pub cast_null : does (Cast (codes "A")) (clean (Null ∷ [])) (world [] []) ≡ Goes (clean (Null ∷ [])) (world [] [])
   pub cast_throws : does (Cast (codes "A")) (clean (Ref 0 ∷ [])) (world (a_lib ∷ []) (0 ∷ [])) ≡ Throws 1 (clean []) (world (a_lib ∷ a_lib ∷ []) (0 ∷ []))
+  pub cast_throws_by_choice : does (Cast (codes "A")) (clean (Ref 0 ∷ [])) (world (an_a Null ∷ []) (1 ∷ [])) ≡ Throws 1 (clean []) (world (an_a Null ∷ a_lib ∷ []) [])
+  pub cast_null_throws_by_choice : does (Cast (codes "A")) (clean (Null ∷ [])) (world [] (1 ∷ [])) ≡ Throws 0 (clean []) (world (a_lib ∷ []) [])
   pub cast_to_string : does (Cast (codes "java/lang/String")) (clean (Ref 0 ∷ [])) (world (a_lib ∷ []) []) ≡ Goes (clean (Ref 0 ∷ [])) (world (a_lib ∷ []) [])
   pub instance_of : does InstanceOf (clean (Ref 0 ∷ [])) (world (a_lib ∷ []) []) ≡ Goes (clean (Prim false ∷ [])) (world (a_lib ∷ []) [])
   pub monitor : does Monitor (clean (Ref 0 ∷ [])) (world (a_lib ∷ []) []) ≡ Goes (clean []) (world (a_lib ∷ []) [])
   pub monitor_throws : does Monitor (clean (Null ∷ [])) (world [] []) ≡ Throws 0 (clean []) (world (a_lib ∷ []) [])
+  pub monitor_throws_by_choice : does Monitor (clean (Ref 0 ∷ [])) (world (a_lib ∷ []) (1 ∷ [])) ≡ Throws 1 (clean []) (world (a_lib ∷ a_lib ∷ []) [])
   pub call_enters : does (call calling_f) (clean []) (world [] []) ≡ Enters 0 [] (clean []) (world [] [])
   pub call_of_abstract : does (call (record calling_f { found = Some (Abstract (record { 0 = 0 })) })) (clean []) (world [] []) ≡ Throws 0 (clean []) (world (a_lib ∷ []) [])
   pub special_call_of_static : does (call (record calling_f { kind = Special })) (clean (Ref 0 ∷ [])) (world (an_a Null ∷ []) []) ≡ NoRule
+  pub static_call_of_member : does (call (calling_member Static)) (clean []) (world [] []) ≡ NoRule
+  pub special_call_enters : does (call (calling_member Special)) (clean (Ref 0 ∷ [])) (world (an_a Null ∷ []) []) ≡ Enters 1 (Ref 0 ∷ []) (clean []) (world (an_a Null ∷ []) [])
+  pub special_call_on_null : does (call (calling_member Special)) (clean (Null ∷ [])) (world [] []) ≡ Throws 0 (clean []) (world (a_lib ∷ []) [])
+  pub call_on_another_class : does (call (record calling_self { class = codes "I" })) (clean (Ref 0 ∷ [])) (world (an_a Null ∷ []) []) ≡ NoRule
+  pub call_of_class_on_text : does (call (record calling_self { class = codes "A" })) (clean (Ref 0 ∷ [])) (world (a_text ∷ []) []) ≡ NoRule
   pub call_on_null : does (call calling_self) (clean (Null ∷ [])) (world [] []) ≡ Throws 0 (clean []) (world (a_lib ∷ []) [])
   pub call_of_library : does (call calling_self) (clean (Ref 0 ∷ [])) (world (a_text ∷ []) []) ≡ Goes (clean (Ref 0 ∷ [])) (world (a_text ∷ []) [])
   pub call_of_library_absorbs : does (call absorbing_self) (clean (Ref 0 ∷ [])) (world (a_lib ∷ []) (1 ∷ 1 ∷ 1 ∷ 0 ∷ [])) ≡
@@ -174,3 +216,16 @@ pub record OperationsDo : Type 0 where
   pub call_of_library_passes_over : does (call absorbing_self) (clean (Ref 0 ∷ [])) (world (a_lib ∷ []) (0 ∷ 0 ∷ [])) ≡ Goes (clean (Ref 0 ∷ [])) (world (a_lib ∷ []) [])
   pub call_of_library_throws : does (call calling_self) (clean (Ref 0 ∷ [])) (world (a_text ∷ []) (1 ∷ [])) ≡ Throws 1 (clean []) (world (a_text ∷ a_lib ∷ []) [])
   pub result_does_not_fit : does (call calling_self) (clean (Ref 0 ∷ [])) (world (references_to [] ∷ []) []) ≡ NoRule
+  pub tainted_exception : does (call (by_row Always Quiet Fresh)) (clean (Ref 0 ∷ [])) (world (a_text ∷ []) (1 ∷ [])) ≡ Throws 1 (clean []) (world (a_text ∷ object 3 [] true [] ∷ []) [])
+  pub result_is_new : does (call (by_row Always Quiet Fresh)) (clean (Ref 0 ∷ [])) (world (a_text ∷ []) []) ≡ Goes (clean (Ref 1 ∷ [])) (world (a_text ∷ object 2 [] true [] ∷ []) [])
+  pub result_is_array : does (call making_object) (clean (Ref 0 ∷ [])) (world (a_text ∷ []) (0 ∷ 2 ∷ [])) ≡ Goes (clean (Ref 2 ∷ [])) (world (a_text ∷ a_lib ∷ references_to (1 ∷ []) ∷ []) [])
+  pub result_is_member : does (call (by_row Args Quiet Member)) (clean (Ref 0 ∷ [])) (world (references_to (1 ∷ []) ∷ a_text ∷ []) (0 ∷ 2 ∷ [])) ≡ Goes (clean (Ref 1 ∷ [])) (world (references_to (1 ∷ []) ∷ a_text ∷ []) [])
+  pub result_is_no_member : does (call (by_row Args Quiet Member)) (clean (Ref 0 ∷ [])) (world (an_a (Ref 1) ∷ a_text ∷ []) (0 ∷ 2 ∷ [])) ≡ Goes (clean (Null ∷ [])) (world (an_a (Ref 1) ∷ a_text ∷ []) [])
+  pub result_is_any : does (call (by_row Args Quiet Any)) (clean (Ref 0 ∷ [])) (world (an_a (Ref 1) ∷ a_text ∷ []) (0 ∷ 2 ∷ [])) ≡ Goes (clean (Ref 1 ∷ [])) (world (an_a (Ref 1) ∷ a_text ∷ []) [])
+  pub call_of_library_blends : does (call (by_row Always Blend Fresh)) (clean (Ref 0 ∷ [])) (world (an_a (Ref 1) ∷ a_lib ∷ []) (1 ∷ 1 ∷ 0 ∷ 0 ∷ [])) ≡
+      Goes (dirty (Ref 2 ∷ [])) (record (world (an_a (Ref 1) ∷ object 3 [] true [] ∷ object 2 [] true [] ∷ []) []) { written = 1 ∷ [] })
+  pub library_field : does (call (reading_field StaticField)) (clean []) (world [] []) ≡ Goes (clean (Ref 0 ∷ [])) (world (a_text ∷ []) [])
+  pub library_field_throws : does (call (reading_field StaticField)) (clean []) (world [] (1 ∷ [])) ≡ Throws 0 (clean []) (world (a_lib ∷ []) [])
+  pub library_field_of_object : does (call (reading_field MemberField)) (clean (Ref 0 ∷ [])) (world (a_lib ∷ []) []) ≡ Goes (clean (Ref 1 ∷ [])) (world (a_lib ∷ a_text ∷ []) [])
+  pub library_field_of_null : does (call (reading_field MemberField)) (clean (Null ∷ [])) (world [] []) ≡ Throws 0 (clean []) (world (a_lib ∷ []) [])
+  pub library_field_written : does (call writing_field) (clean (Ref 1 ∷ Ref 0 ∷ [])) (world (a_lib ∷ a_text ∷ []) (1 ∷ 0 ∷ 0 ∷ 1 ∷ 0 ∷ [])) ≡ Goes (clean []) (wrote (world (object 3 [] false (1 ∷ []) ∷ a_text ∷ []) []))

@@ -195,9 +195,13 @@ run (suc depth) p x world left = if_left left (Cut x [] world) (λ rest. steps (
 abbrev pub call_run : Parts → (m : ℕ) (args : List Value) → World → (n : ℕ) → Outcome
 call_run p m args world n = run n p (start p m args world) world n
 
+-- the world in which a run stands
+abbrev pub world_in : Outcome → World
+world_in (Returned value dirt world left) = world
+world_in (Threw place dirt world left) = world
+world_in (Stuck innermost callers world) = world
+world_in (Cut innermost callers world) = world
+
 -- the events of a run so far
 abbrev pub events_in : Outcome → List Event
-events_in (Returned value dirt world left) = world.events
-events_in (Threw place dirt world left) = world.events
-events_in (Stuck innermost callers world) = world.events
-events_in (Cut innermost callers world) = world.events
+events_in outcome = (world_in outcome).events
