@@ -5,3 +5,4 @@ pub mod Loads
 pub mod Empty
 pub mod MoreMarks
 pub mod Joint
+pub mod Kept

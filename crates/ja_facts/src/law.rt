@@ -11,9 +11,9 @@ ghost use Rattle.ja_facts.specs.Reaching.{Fact as ReachFact, Rule as ReachRule};
 ghost use Rattle.ja_facts.specs.Held.{OfField};
 ghost use Rattle.ja_facts.specs.Slots.{Local, OnStack};
 ghost use Rattle.ja_facts.specs.Formulas.{Assignment, IsNormalEnd};
-ghost use Rattle.ja_facts.specs.ClassTables.{empty_classes};
-ghost use Rattle.ja_facts.specs.FactTables.{empty_graph, empty_held, empty_pairs, empty_effects, empty_reach};
-ghost use Rattle.ja_facts.specs.Told.{TellsClass, TellsHeld, TellsHeap, TellsReach};
+ghost use Rattle.ja_facts.specs.ClassTables.{ClassTable, empty_classes};
+ghost use Rattle.ja_facts.specs.FactTables.{GraphTable, HeldTable, empty_graph, empty_held, empty_pairs, empty_effects, empty_reach};
+ghost use Rattle.ja_facts.specs.Told.{TellsClass, TellsHeld, TellsHeap, TellsReach, IsKeptClass, IsKeptHeld, IsKeptReach};
 ghost use Rattle.ja_ir.specs.declared.entry.Entry.{Entry};
 ghost use Rattle.ja_ir.specs.declared.entry.Site.{Site};
 ghost use Rattle.ja_facts.specs.Marks.{MarkMore, with_entries};
@@ -21,35 +21,24 @@ ghost use Rattle.ja_facts.specs.Equations.{Fact, Rule, Context, At, Stored, Thre
 ghost use Rattle.ja_facts.specs.Example.{Rules, example, example_site, only_lowest, clean_return, tainted_throw};
 ghost use Rattle.ja_facts.specs.Verdict.{AreVerdicts, report_text, total_text, printed, site_line};
 
-/// The least solution of the rules of class sets is one.
+/// The least solution of the rules of class sets is one, and so are those of held cells, of pairs and
+/// effects, of reachability and of the equations of taint, each for the least solutions of those that
+/// its rules speak of.
 pub fn law_least_is_solution()
-    ensures { (p : Parts) → IsSolution (ClassRule p) (Least (ClassRule p)) }
+    ensures classes { (p : Parts) → IsSolution (ClassRule p) (Least (ClassRule p)) }
+    ensures held { (p : Parts) → let rules = HeldRule p (Least (ClassRule p)) in IsSolution rules (Least rules) }
+    ensures sharing { (p : Parts) → let rules = HeapRule p (Least (ClassRule p)) in IsSolution rules (Least rules) }
+    ensures reaching { (p : Parts) → let classes = Least (ClassRule p) in let rules = ReachRule p classes (Least (HeapRule p classes)) in IsSolution rules (Least rules) }
+    ensures equations { (p : Parts) → let classes = Least (ClassRule p) in let heaps = Least (HeapRule p classes) in let rules = Rule p classes (Least (HeldRule p classes)) heaps (Least (ReachRule p classes heaps)) in IsSolution rules (Least rules) }
 {}
 
-/// The least solution of the rules of class sets lies below each set that a test tells and in which
-/// the rules hold.
+/// Each of these least solutions lies below each set that a test tells and in which its rules hold.
 pub fn law_least_is_below()
-    ensures { (p : Parts) (set : ClassFact → Bool) → IsSolution (ClassRule p) (λ f. IsTrue (set f)) → (f : ClassFact) → Least (ClassRule p) f → IsTrue (set f) }
-{}
-
-/// The same of what tokens and fields hold, for the least class sets.
-pub fn law_held_is_solution()
-    ensures { (p : Parts) → IsSolution (HeldRule p (Least (ClassRule p))) (Least (HeldRule p (Least (ClassRule p)))) }
-{}
-
-/// The same of heap pairs and effects.
-pub fn law_sharing_is_solution()
-    ensures { (p : Parts) → IsSolution (HeapRule p (Least (ClassRule p))) (Least (HeapRule p (Least (ClassRule p)))) }
-{}
-
-/// The same of reachability, for the least class sets and the least pairs and effects.
-pub fn law_reaching_is_solution()
-    ensures { (p : Parts) → let classes = Least (ClassRule p) in let heaps = Least (HeapRule p classes) in IsSolution (ReachRule p classes heaps) (Least (ReachRule p classes heaps)) }
-{}
-
-/// The same of the equations of taint, for the least solutions of all others.
-pub fn law_equations_is_solution()
-    ensures { (p : Parts) → let classes = Least (ClassRule p) in let held = Least (HeldRule p classes) in let heaps = Least (HeapRule p classes) in let reach = Least (ReachRule p classes heaps) in IsSolution (Rule p classes held heaps reach) (Least (Rule p classes held heaps reach)) }
+    ensures classes { (p : Parts) (set : ClassFact → Bool) → IsSolution (ClassRule p) (λ f. IsTrue (set f)) → (f : ClassFact) → Least (ClassRule p) f → IsTrue (set f) }
+    ensures held { (p : Parts) (set : HeldFact → Bool) → let rules = HeldRule p (Least (ClassRule p)) in IsSolution rules (λ f. IsTrue (set f)) → (f : HeldFact) → Least rules f → IsTrue (set f) }
+    ensures sharing { (p : Parts) (set : HeapFact → Bool) → let rules = HeapRule p (Least (ClassRule p)) in IsSolution rules (λ f. IsTrue (set f)) → (f : HeapFact) → Least rules f → IsTrue (set f) }
+    ensures reaching { (p : Parts) (set : ReachFact → Bool) → let classes = Least (ClassRule p) in let rules = ReachRule p classes (Least (HeapRule p classes)) in IsSolution rules (λ f. IsTrue (set f)) → (f : ReachFact) → Least rules f → IsTrue (set f) }
+    ensures equations { (p : Parts) (set : Fact → Bool) → let classes = Least (ClassRule p) in let heaps = Least (HeapRule p classes) in let rules = Rule p classes (Least (HeldRule p classes)) heaps (Least (ReachRule p classes heaps)) in IsSolution rules (λ f. IsTrue (set f)) → (f : Fact) → Least rules f → IsTrue (set f) }
 {}
 
 /// A report of a program without sites is that without their lines, and a name of a letter, a blank
@@ -106,6 +95,13 @@ pub fn law_empty_heaps_tell_nothing()
     ensures held { (p : Parts) (f : HeldFact) → TellsHeld p (empty_held p) f → ⊥ }
     ensures heaps { (p : Parts) (f : HeapFact) → TellsHeap p (Least (ClassRule p)) (empty_pairs p) (empty_effects p) f → ⊥ }
     ensures reach { (p : Parts) (f : ReachFact) → TellsReach p (empty_reach p) f → ⊥ }
+{}
+
+/// Tables tell no fact of a kind that they do not keep.
+pub fn law_tables_tell_kept()
+    ensures classes { (p : Parts) (sets : ClassTable) (graph : GraphTable) (f : ClassFact) → TellsClass p sets graph f → IsKeptClass f }
+    ensures held { (p : Parts) (held : HeldTable) (f : HeldFact) → TellsHeld p held f → IsKeptHeld f }
+    ensures reach { (p : Parts) (reach : List (List (List (List Bool)))) (f : ReachFact) → TellsReach p reach f → IsKeptReach f }
 {}
 
 /// Where no fact holds no site is warned: flags that are all false are the verdicts of a program whose

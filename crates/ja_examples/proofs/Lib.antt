@@ -1,0 +1,15 @@
+pub mod Deriving
+pub mod Passed
+pub mod Thrown
+pub mod Built
+pub mod Listed
+pub mod Unlinked
+pub mod Apart
+pub mod Parted
+pub mod Entered
+pub mod Holding
+pub mod Chosen
+pub mod Single
+pub mod Carried
+pub mod Stored
+pub mod Clean

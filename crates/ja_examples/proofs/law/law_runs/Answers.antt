@@ -1,0 +1,15 @@
+use Rattle.std.proofs.Common.{refl}
+use Rattle.ja_examples.proofs.law.law_runs.Goals as goal
+
+pub returns : goal.returns
+returns c = record {
+  passed_text = refl;
+  caught_exception = refl;
+  built_text = refl;
+  unlinked_node = refl;
+  entered_object = refl;
+  parted_field = refl;
+  chosen_subclass = refl;
+  single_subclass = refl;
+  array_element = refl;
+}

@@ -1,0 +1,12 @@
+pub mod Solutions
+pub mod Truth
+pub mod Library
+pub mod Passing
+pub mod Throwing
+pub mod Building
+pub mod Unlinking
+pub mod Parting
+pub mod Entering
+pub mod Runs
+pub mod Choosing
+pub mod Elements

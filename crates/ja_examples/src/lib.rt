@@ -1,0 +1,9 @@
+//! What the definitions say of small programs.
+#![tactic(auto)]
+
+mod law;
+
+pub use law::{
+    law_building, law_choosing, law_elements, law_entering, law_parting, law_passing, law_runs,
+    law_throwing, law_unlinking,
+};

@@ -1,8 +1,0 @@
-use Rattle.ja_facts.specs.Least.{Least}
-use Rattle.ja_facts.specs.ClassSets.{Rule as ClassRule}
-use Rattle.ja_facts.specs.Held.{Rule as HeldRule}
-use Rattle.ja_facts.proofs.LeastLaws.{Least-is_solution}
-use Rattle.ja_facts.proofs.law.law_held_is_solution.Goals as goal
-
-pub returns : goal.returns
-returns c p = Least-is_solution (HeldRule p (Least (ClassRule p)))

@@ -1,9 +1,0 @@
-use Rattle.ja_facts.specs.Least.{Least}
-use Rattle.ja_facts.specs.ClassSets.{Rule as ClassRule}
-use Rattle.ja_facts.specs.Sharing.{Rule as HeapRule}
-use Rattle.ja_facts.specs.Reaching.{Rule as ReachRule}
-use Rattle.ja_facts.proofs.LeastLaws.{Least-is_solution}
-use Rattle.ja_facts.proofs.law.law_reaching_is_solution.Goals as goal
-
-pub returns : goal.returns
-returns c p = Least-is_solution (ReachRule p (Least (ClassRule p)) (Least (HeapRule p (Least (ClassRule p)))))
