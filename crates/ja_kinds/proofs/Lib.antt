@@ -1,0 +1,6 @@
+mod ByNumber
+mod Stacks
+mod Effects
+mod Order
+mod Monotone
+mod Hands

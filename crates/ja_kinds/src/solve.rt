@@ -1,0 +1,264 @@
+ghost use Rattle.std.specs.Prelude.{◌≡◌, ℕ, ◌+◌, ◌∷◌, [], true, length, IfOk};
+ghost use Rattle.ja_kinds.specs.declared.state.State.TheVariants.{Known};
+ghost use Rattle.ja_kinds.specs.Effect.{IsOneOf, LeadsTo, goes_on, branches, targets_of};
+ghost use Rattle.ja_kinds.specs.Solution.{HandledAt, after, thrown};
+ghost use Rattle.ja_kinds.specs.Solving.{state_at, IsWide, AreWide, Catches, Hands, Sweeps};
+
+use crate::behaviour::Behaviour;
+use crate::effect::Effect;
+use crate::frame::Frame;
+use crate::law::law_one_effect;
+use crate::merge::{is_below, merge};
+use crate::reading::effect_of;
+use crate::state::{KindState, State};
+use crate::step::{accepted, copy, one};
+use crate::table::behaviour_of;
+use ja_base::{Kind, Memory};
+use ja_code::{Code, RawHandler, RawInstr};
+use ja_pool::Pool;
+use std::alloc::Global;
+
+/// Hands a state to a place, if it is one of the code, and says whether what is known there changes.
+fn raise(
+    alloc: Global,
+    max_locals: u32,
+    states: &mut [State],
+    place: u64,
+    state: &State,
+) -> Result<bool, Memory>
+    requires states { AreWide max_locals states.old }
+    requires state { IsWide max_locals state.now }
+    ensures { IfOk result (Hands max_locals (λ p. p ≡ place) state.now states.old states.new) }
+{
+    if place >= states.len() as u64 {
+        return Ok(false);
+    }
+    let at = place as usize;
+    if is_below(state, &states[at]) {
+        return Ok(false);
+    }
+    let merged = merge(alloc, &states[at], state)?;
+    states[at] = merged;
+    Ok(true)
+}
+
+/// Hands a state to some places.
+fn raise_all(
+    alloc: Global,
+    max_locals: u32,
+    states: &mut [State],
+    places: &[u64],
+    state: &State,
+) -> Result<bool, Memory>
+    requires states { AreWide max_locals states.old }
+    requires state { IsWide max_locals state.now }
+    ensures { IfOk result (Hands max_locals (λ p. IsOneOf p places.now) state.now states.old states.new) }
+{
+    let mut changed = false;
+    for place in places {
+        let rose = raise(alloc, max_locals, states, *place, state)?;
+        changed |= rose;
+    }
+    Ok(changed)
+}
+
+/// What an instruction hands on: to the places where it may go next, and to its handlers.
+#[derive(Drop)]
+struct Outcome {
+    after: State,
+    thrown: State,
+}
+
+/// What an instruction hands on where this is known before it.
+fn outcome_known(
+    alloc: Global,
+    frame: &Frame,
+    effect: &Effect,
+    state: &KindState,
+) -> Result<Outcome, Memory>
+    ensures after { IfOk result (λ h. h.after ≡ after frame.now effect.now (Known state.now)) }
+    ensures thrown { IfOk result (λ h. h.thrown ≡ thrown frame.now effect.now (Known state.now)) }
+{
+    let turned = accepted(alloc, frame, effect, state)?;
+    match turned {
+        None => Ok(Outcome {
+            after: State::Clash,
+            thrown: State::Clash,
+        }),
+        Some(turned) => {
+            let locals = copy(alloc, &state.locals)?;
+            let stack = one(alloc, Kind::R)?;
+            Ok(Outcome {
+                after: State::Known(turned),
+                thrown: State::Known(KindState { locals, stack }),
+            })
+        }
+    }
+}
+
+/// What an instruction hands on in this state.
+fn outcome_of(
+    alloc: Global,
+    frame: &Frame,
+    effect: &Effect,
+    state: &State,
+) -> Result<Outcome, Memory>
+    ensures after { IfOk result (λ h. h.after ≡ after frame.now effect.now state.now) }
+    ensures thrown { IfOk result (λ h. h.thrown ≡ thrown frame.now effect.now state.now) }
+{
+    match state {
+        State::Unreached => Ok(Outcome {
+            after: State::Unreached,
+            thrown: State::Unreached,
+        }),
+        State::Known(known) => outcome_known(alloc, frame, effect, known),
+        State::Clash => Ok(Outcome {
+            after: State::Clash,
+            thrown: State::Clash,
+        }),
+    }
+}
+
+/// What an instruction hands on in the state at its place.
+fn outcome_at(
+    alloc: Global,
+    frame: &Frame,
+    effect: &Effect,
+    states: &[State],
+    pc: u32,
+) -> Result<Outcome, Memory>
+    ensures after { IfOk result (λ h. h.after ≡ after frame.now effect.now (state_at states.now pc)) }
+    ensures thrown { IfOk result (λ h. h.thrown ≡ thrown frame.now effect.now (state_at states.now pc)) }
+{
+    if pc as usize >= states.len() {
+        return outcome_of(alloc, frame, effect, &State::Unreached);
+    }
+    outcome_of(alloc, frame, effect, &states[pc as usize])
+}
+
+/// Whether the next instruction in the code may come after one.
+pub(crate) fn goes_on(behaviour: Behaviour) -> bool
+    ensures { result ≡ goes_on behaviour }
+{
+    match behaviour {
+        Behaviour::Jump => false,
+        Behaviour::Switch => false,
+        Behaviour::Return(_) => false,
+        Behaviour::Throw => false,
+        _ => true,
+    }
+}
+
+/// Whether the operands of an instruction are places where it may go.
+fn branches(behaviour: Behaviour) -> bool
+    ensures { result ≡ branches behaviour }
+{
+    match behaviour {
+        Behaviour::Test(_) => true,
+        Behaviour::Jump => true,
+        Behaviour::Switch => true,
+        _ => false,
+    }
+}
+
+/// Hands a state to the targets of an instruction.
+fn raise_targets(
+    alloc: Global,
+    max_locals: u32,
+    states: &mut [State],
+    instr: &RawInstr,
+    behaviour: Behaviour,
+    state: &State,
+) -> Result<bool, Memory>
+    requires states { AreWide max_locals states.old }
+    requires state { IsWide max_locals state.now }
+    ensures { IfOk result (Hands max_locals (λ p. IsOneOf p (targets_of behaviour instr.now)) state.now states.old states.new) }
+{
+    if !branches(behaviour) {
+        return Ok(false);
+    }
+    raise_all(alloc, max_locals, states, instr.operands.as_slice(), state)
+}
+
+/// Hands a state to the next instruction, where it may come after this one.
+fn raise_next(
+    alloc: Global,
+    max_locals: u32,
+    states: &mut [State],
+    instr: &RawInstr,
+    behaviour: Behaviour,
+    state: &State,
+) -> Result<bool, Memory>
+    requires states { AreWide max_locals states.old }
+    requires state { IsWide max_locals state.now }
+    ensures { IfOk result (Hands max_locals (λ p. (goes_on behaviour ≡ true) × (p ≡ instr.now.pc + instr.now.length)) state.now states.old states.new) }
+{
+    if !goes_on(behaviour) {
+        return Ok(false);
+    }
+    let next = u64::from(instr.pc) + u64::from(instr.length);
+    raise(alloc, max_locals, states, next, state)
+}
+
+/// Hands a state to each place where the normal end of an instruction leads.
+fn raise_after(
+    alloc: Global,
+    max_locals: u32,
+    states: &mut [State],
+    instr: &RawInstr,
+    behaviour: Behaviour,
+    state: &State,
+) -> Result<bool, Memory>
+    requires states { AreWide max_locals states.old }
+    requires state { IsWide max_locals state.now }
+    ensures { IfOk result (Hands max_locals (λ p. LeadsTo instr.now behaviour p) state.now states.old states.new) }
+{
+    let branched = raise_targets(alloc, max_locals, states, instr, behaviour, state)?;
+    let went_on = raise_next(alloc, max_locals, states, instr, behaviour, state)?;
+    Ok(branched | went_on)
+}
+
+/// Hands a state to the handler of an entry of the exception table, where its range has the pc.
+fn raise_handler(
+    alloc: Global,
+    max_locals: u32,
+    states: &mut [State],
+    row: RawHandler,
+    pc: u32,
+    state: &State,
+) -> Result<bool, Memory>
+    requires states { AreWide max_locals states.old }
+    requires state { IsWide max_locals state.now }
+    ensures { IfOk result (Hands max_locals (λ p. Catches row pc p) state.now states.old states.new) }
+{
+    let start = u32::from(row.start);
+    let end = u32::from(row.end);
+    if pc < start {
+        return Ok(false);
+    }
+    if pc >= end {
+        return Ok(false);
+    }
+    raise(alloc, max_locals, states, u64::from(row.handler), state)
+}
+
+/// Hands a state to each handler whose range has the pc.
+fn raise_handlers(
+    alloc: Global,
+    max_locals: u32,
+    states: &mut [State],
+    rows: &[RawHandler],
+    pc: u32,
+    state: &State,
+) -> Result<bool, Memory>
+    requires states { AreWide max_locals states.old }
+    requires state { IsWide max_locals state.now }
+    ensures { IfOk result (Hands max_locals (λ p. HandledAt rows.now pc p) state.now states.old states.new) }
+{
+    let mut changed = false;
+    for row in rows {
+        let rose = raise_handler(alloc, max_locals, states, *row, pc, state)?;
+        changed |= rose;
+    }
+    Ok(changed)
+}
