@@ -1,0 +1,5 @@
+use Rattle.bdd_bench.specs.Ready.{IsReady}
+use Rattle.bdd_bench.proofs.identity.identity.Given as goal
+
+abbrev pub invariant-loop-round : goal.invariant-loop-round
+invariant-loop-round l = IsReady l.table l.pool

@@ -1,0 +1,15 @@
+pub mod Fixing
+pub mod Named
+pub mod Sound
+pub mod Parts
+pub mod Room
+pub mod Cached
+pub mod Joining
+pub mod Forgetting
+pub mod Shifting
+pub mod Down
+pub mod Picking
+pub mod Learning
+pub mod Renewing
+pub mod Partners
+pub mod Pooled

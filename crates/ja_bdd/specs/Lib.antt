@@ -1,0 +1,6 @@
+pub mod Functions
+pub mod Meaning
+pub mod Variables
+pub mod Room
+pub mod Inner
+pub mod Workers
