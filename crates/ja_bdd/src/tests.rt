@@ -143,6 +143,18 @@ impl Pool {
         Ok(value_at(table, &mut self.worker, n, point))
     }
 
+    /// The variable and the children of a node that is no constant.
+    fn parts(&mut self, table: &NodeTable<AnyAim>, at: usize) -> Result<Parts, Memory>
+        requires { IsWorkerOf table.now self.old.worker × All (λ n. Knows (seen self.old.worker) n.number) self.old.nodes.items }
+        ensures { OnOk result (IsWorkerOf table.now self.new.worker × All (λ n. Knows (seen self.new.worker) n.number) self.new.nodes.items) }
+    {
+        let n = self.node(at)?;
+        if n.number < 2 {
+            return Err(Memory);
+        }
+        Ok(self.worker.parts(table, n))
+    }
+
     /// Picks an assignment of a node.
     fn pick(&mut self, table: &NodeTable<AnyAim>, at: usize, a: &mut Assign) -> Result<bool, Memory>
         requires { IsWorkerOf table.now self.old.worker × All (λ n. Knows (seen self.old.worker) n.number) self.old.nodes.items }
@@ -173,6 +185,11 @@ fn joins_and_forgets(rt: HostRuntime) -> Result<(), Fail> {
     let a = pool.step(&table, Step::Literal(0, true), 0, 0)?;
     let b = pool.step(&table, Step::Literal(1, true), 0, 0)?;
     let both = pool.step(&table, Step::And, a, b)?;
+    let parts = pool.parts(&table, both)?;
+    assert_eq!(rt;
+        (parts.var, parts.lo.number, Some(parts.hi.number)),
+        (0, 0, pool.number(b))
+    );
     let rest = pool.step(&table, Step::Exists(0), both, 0)?;
     assert_eq!(rt; pool.number(rest), pool.number(b));
     let not_a = pool.step(&table, Step::Literal(0, false), 0, 0)?;
