@@ -4,10 +4,13 @@ use Rattle.std.specs.Prelude.{◌↔◌, Option, Some, None, Contains}
 use Rattle.std.proofs.lemmas.List.{get_or_default}
 use Rattle.std.proofs.lemmas.List.Elements.{Contains-get_or}
 use Rattle.ja_ir.specs.declared.head.ClassHead.{ClassHead}
-use Rattle.ja_hier.specs.Index.{LeadsOn}
+use Rattle.std.specs.BTreeMap.{BTreeMap}
+use Rattle.ja_hier.specs.declared.starts.Member.TheVariants.{Field}
+use Rattle.ja_hier.specs.Index.{classes_at, DeclaresFor, IsIndexOf, LeadsOn}
+use Rattle.ja_hier.proofs.Indexed.{field-noted}
 use Rattle.ja_hier.specs.LookUps.{field_in, IsDeclaredAbove, FieldSearch, nowhere, here, further}
-use Rattle.ja_hier.specs.Supertypes.{supertypes_of, IsDirect, IsSupertype, IsAtOrAbove}
-use Rattle.ja_hier.proofs.Falls.{first-step, step-above}
+use Rattle.ja_supers.specs.Supertypes.{supertypes_of, IsDirect, IsSupertype, IsAtOrAbove}
+use Rattle.ja_supers.proofs.Falls.{first-step, step-above, direct-target}
 
 pub none-from : (o : Option ℕ) → ((k : ℕ) → o ≡ Some k → ⊥) → o ≡ None
 none-from None h = refl
@@ -80,16 +83,10 @@ next-above heads name desc c none above =
           (first.0, first.1, (above.0, above.1, first.2, above.3))
     ]
 
--- nothing is declared at or above a class where neither it nor one of its supertypes declares the field
-pub none-above : (heads : List ClassHead) (name desc : List ℕ) (c : ℕ) (xs : List ℕ) → ((d : ℕ) → Contains xs d ↔ IsSupertype heads c d) → ((k : ℕ) → field_in heads name desc c ≡ Some k → ⊥)
-    → ((j k : ℕ) → j < length xs → field_in heads name desc (get_or xs j 0) ≡ Some k → ⊥) → IsDeclaredAbove heads name desc c → ⊥
-none-above heads name desc c xs exact own each above =
-    elim above.2 [
-      | inl same ↦ own above.1 (ap (field_in heads name desc) same ∙ above.3)
-      | inr s ↦
-          let in' : Contains xs above.0 = (exact above.0).1 s in
-          each in'.0 above.1 in'.1 (ap (field_in heads name desc) (get_or_default xs in'.0 0 above.0 in'.1 ∙ in'.2) ∙ above.3)
-    ]
+-- a class that declares the field at or above another one is noted
+pub above-noted : (heads : List ClassHead) (index : BTreeMap (List ℕ) (List ℕ)) (name desc : List ℕ) (c : ℕ) → IsIndexOf Field heads index → IsDeclaredAbove heads name desc c
+    → (e : ℕ) × Contains (classes_at index name) e × DeclaresFor heads name desc c e
+above-noted heads index name desc c are above = (above.0, field-noted heads index name desc above.0 above.1 are above.3, record { above = above.2; declared = (above.1, above.3) })
 
 -- the search goes on at the first direct supertype at or above which the field is declared
 pub leads-on : (heads : List ClassHead) (name desc : List ℕ) (rank : ℕ → ℕ) → ((c d : ℕ) → IsDirect heads c d → rank d < rank c) → (c i : ℕ) (xs : List ℕ) → xs ≡ supertypes_of heads c → field_in heads name desc c ≡ None
@@ -108,3 +105,7 @@ no-next heads name desc c xs e none each above =
     let next : (d : ℕ) × IsDirect heads c d × IsDeclaredAbove heads name desc d = next-above heads name desc c none above in
     let in' : Contains xs next.0 = subst (λ (ys : List ℕ). Contains ys next.0) (sym e) next.1 in
     each in'.0 in'.1 (subst (λ (d : ℕ). IsDeclaredAbove heads name desc d) (sym (get_or_default xs in'.0 0 next.0 in'.1 ∙ in'.2)) next.2)
+
+-- a direct supertype that is read is a class
+pub next-inside : (heads : List ClassHead) (c : ℕ) (xs : List ℕ) (i : ℕ) → xs ≡ supertypes_of heads c → i < length xs → get_or xs i 0 < length heads
+next-inside heads c xs i e lt = direct-target heads c (get_or xs i 0) (subst (λ (ds : List ℕ). Contains ds (get_or xs i 0)) e (Contains-get_or xs i 0 lt))

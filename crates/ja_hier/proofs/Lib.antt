@@ -1,13 +1,8 @@
-pub mod Ways
-pub mod Seen
-pub mod Falls
-pub mod Up
+pub mod ClassFaults
 pub mod FieldWays
 pub mod Packages
-pub mod Places
 pub mod Numbers
 pub mod OneAnswer
-pub mod ForeignWays
 pub mod MethodWays
-pub mod ListSteps
-pub mod Climbs
+pub mod Crossings
+pub mod Indexed

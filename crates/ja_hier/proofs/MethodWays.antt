@@ -1,31 +1,40 @@
 -- What is left of the superinterfaces of a class.
-use Rattle.std.proofs.Common.{◌≡◌, ℕ, ◌<◌, true, List, length, get_or, refl, sym, ap, ◌∙◌, subst}
+use Rattle.std.proofs.Common.{◌≡◌, ℕ, zero, suc, ◌<◌, true, List, [], length, get_or, refl, sym, ap, ◌∙◌, subst, arith}
 use Rattle.std.specs.Prelude.{◌↔◌, Option, Some, None, Contains, is_some}
 use Rattle.std.proofs.lemmas.List.{get_or_default}
 use Rattle.ja_ir.specs.declared.head.ClassHead.{ClassHead}
 use Rattle.ja_hier.specs.declared.skip.Skip.TheVariants.{NoDefault}
-use Rattle.ja_hier.specs.Index.{Overrides, IsOverridden, IsSomeLeft, IsOtherLeft, IsLeftNumber}
-use Rattle.ja_hier.specs.LookUps.{method_in, IsLeft, FindsDefault, one, nothing_left, several}
-use Rattle.ja_hier.specs.Supertypes.{IsSuperinterface}
+use Rattle.std.specs.BTreeMap.{BTreeMap}
+use Rattle.ja_hier.specs.declared.starts.Member.TheVariants.{Method}
+use Rattle.ja_hier.proofs.Indexed.{method-noted}
+use Rattle.ja_hier.specs.Index.{classes_at, IsIndexOf, IsSomeCandidate, Overrides, IsOverridden, IsSomeLeft, IsOtherLeft, IsLeftNumber}
+use Rattle.ja_hier.specs.LookUps.{method_in, IsLeft, FindsDefault, one, nothing_left, several, ClassSearch, inherited, at_end, Finds, in_no_class}
+use Rattle.ja_ir.specs.declared.class.MethodAt.TheVariants.{Library as AtLibrary}
+use Rattle.ja_supers.specs.Faults.{IsCyclic, IsNowhere}
+use Rattle.ja_supers.specs.Supertypes.{superclass_of, IsSuperinterface}
+use Rattle.ja_supers.proofs.Falls.{superclass-direct}
+use Rattle.ja_supers.proofs.Ranks.{rank_of, rank-falls}
+use Rattle.ja_hier.specs.declared.skip.Skip.{Skip}
+use Rattle.ja_hier.proofs.FieldWays.{none-from}
 
 same-place : (o : Option ℕ) (j k : ℕ) → o ≡ Some j → o ≡ Some k → j ≡ k
 same-place o j k e f = let g : Some j ≡ Some k = sym e ∙ f in cc g
 
 -- a method is left where no candidate overrides it
-pub left-from : (heads : List ClassHead) (name desc : List ℕ) (c i k : ℕ) → IsSuperinterface heads c i → method_in heads NoDefault name desc i ≡ Some k → (IsOverridden heads name desc c i → ⊥) → IsSomeLeft heads name desc c i
-left-from heads name desc c i k above e none = (
-  k,
+pub left-from : (heads : List ClassHead) (name desc : List ℕ) (c i : ℕ) → IsSomeCandidate heads name desc c i → (IsOverridden heads name desc c i → ⊥) → IsSomeLeft heads name desc c i
+left-from heads name desc c i candidate none = (
+  candidate.0,
   record {
-    candidate = record { above = above; declared = e };
-    least = λ j l candidate sub. none (j, candidate.above, (l, candidate.declared, sub));
+    candidate = candidate.1;
+    least = λ j l other sub. none (j, record { candidate = (l, other); below = sub });
   },
 )
 
-pub left-declared : (heads : List ClassHead) (name desc : List ℕ) (c i : ℕ) → IsSomeLeft heads name desc c i → (k : ℕ) × (method_in heads NoDefault name desc i ≡ Some k)
-left-declared heads name desc c i left = (left.0, left.1.candidate.declared)
+pub left-candidate : (heads : List ClassHead) (name desc : List ℕ) (c i : ℕ) → IsSomeLeft heads name desc c i → IsSomeCandidate heads name desc c i
+left-candidate heads name desc c i left = (left.0, left.1.candidate)
 
 pub left-alone : (heads : List ClassHead) (name desc : List ℕ) (c i : ℕ) → IsSomeLeft heads name desc c i → IsOverridden heads name desc c i → ⊥
-left-alone heads name desc c i left over = left.1.least over.0 over.2.0 (record { above = over.1; declared = over.2.1 }) over.2.2
+left-alone heads name desc c i left over = left.1.least over.0 over.1.candidate.0 over.1.candidate.1 over.1.below
 
 pub left-above : (heads : List ClassHead) (name desc : List ℕ) (c i : ℕ) → IsSomeLeft heads name desc c i → IsSuperinterface heads c i
 left-above heads name desc c i left = left.1.candidate.above
@@ -43,26 +52,40 @@ none-left heads name desc c none = nothing_left (λ j l left. none j (l, left))
 pub two-left : (heads : List ClassHead) (name desc : List ℕ) (c i : ℕ) → IsSomeLeft heads name desc c i → IsOtherLeft heads name desc c i → FindsDefault heads name desc c None
 two-left heads name desc c i left other = several i left.0 other.0 other.1.0 left.1 other.1.1 other.2
 
--- what holds at each place of a list holds of each of its items
-pub at-item : (P : ℕ → Type 0) (xs : List ℕ) → ((j : ℕ) → j < length xs → P (get_or xs j 0)) → (x : ℕ) → Contains xs x → P x
-at-item P xs each x in' = subst P (get_or_default xs in'.0 0 x in'.1 ∙ in'.2) (each in'.0 in'.1)
+-- an interface of which a method is left is noted, and so is one that overrides
+pub left-noted : (heads : List ClassHead) (index : BTreeMap (List ℕ) (List ℕ)) (name desc : List ℕ) (c i : ℕ) → IsIndexOf Method heads index → IsSomeLeft heads name desc c i → Contains (classes_at index name) i
+left-noted heads index name desc c i are left = method-noted heads index NoDefault name desc i left.0 are left.1.candidate.declared
 
--- nothing of a list of all superinterfaces overrides the interface
-pub not-overridden : (heads : List ClassHead) (name desc : List ℕ) (c i : ℕ) (xs : List ℕ) → ((j : ℕ) → Contains xs j ↔ IsSuperinterface heads c j) → ((j : ℕ) → j < length xs → Overrides heads name desc (get_or xs j 0) i → ⊥)
-    → IsOverridden heads name desc c i → ⊥
-not-overridden heads name desc c i xs exact each over =
-    at-item (λ (j : ℕ). Overrides heads name desc j i → ⊥) xs each over.0 ((exact over.0).1 over.1) over.2
+pub overriding-noted : (heads : List ClassHead) (index : BTreeMap (List ℕ) (List ℕ)) (name desc : List ℕ) (c j i : ℕ) → IsIndexOf Method heads index → Overrides heads name desc c j i → Contains (classes_at index name) j
+overriding-noted heads index name desc c j i are over = method-noted heads index NoDefault name desc j over.candidate.0 are over.candidate.1.declared
 
--- no method is left of a superinterface, where none is left of a list of all superinterfaces
-pub not-left : (heads : List ClassHead) (name desc : List ℕ) (c : ℕ) (xs : List ℕ) → ((j : ℕ) → Contains xs j ↔ IsSuperinterface heads c j) → ((j : ℕ) → j < length xs → IsSomeLeft heads name desc c (get_or xs j 0) → ⊥)
-    → (i : ℕ) → IsSomeLeft heads name desc c i → ⊥
-not-left heads name desc c xs exact each i left =
-    at-item (λ (j : ℕ). IsSomeLeft heads name desc c j → ⊥) xs each i ((exact i).1 (left-above heads name desc c i left)) left
+-- where no class declares a method of the name, a class declares none
+pub none-declared : (heads : List ClassHead) (index : BTreeMap (List ℕ) (List ℕ)) (skip : Skip) (name desc : List ℕ) → IsIndexOf Method heads index → classes_at index name ≡ [] → (c : ℕ) → method_in heads skip name desc c ≡ None
+none-declared heads index skip name desc are none c =
+    none-from (method_in heads skip name desc c) (λ k e.
+    let in' : Contains {X = ℕ} [] c = subst (λ (xs : List ℕ). Contains xs c) none (method-noted heads index skip name desc c k are e) in
+    omega (arith, in'.1))
 
-pub all-same : (heads : List ClassHead) (name desc : List ℕ) (c f : ℕ) (xs : List ℕ) → ((j : ℕ) → Contains xs j ↔ IsSuperinterface heads c j) → ((j : ℕ) → j < length xs → IsSomeLeft heads name desc c (get_or xs j 0) → get_or xs j 0 ≡ f)
-    → (i : ℕ) → IsSomeLeft heads name desc c i → i ≡ f
-all-same heads name desc c f xs exact each i left =
-    at-item (λ (j : ℕ). IsSomeLeft heads name desc c j → j ≡ f) xs each i ((exact i).1 (left-above heads name desc c i left)) left
+search-none-by : (heads : List ClassHead) (skip : Skip) (name desc : List ℕ) (c : ℕ) (o : Option ℕ) → superclass_of heads c ≡ o → method_in heads skip name desc c ≡ None
+    → ((d : ℕ) → superclass_of heads c ≡ Some d → ClassSearch heads skip name desc d None) → ClassSearch heads skip name desc c None
+search-none-by heads skip name desc c None e none up = at_end none e
+search-none-by heads skip name desc c (Some d) e none up = inherited none e (up d e)
+
+search-none-below : (heads : List ClassHead) (skip : Skip) (name desc : List ℕ) → IsNowhere (IsCyclic heads) → ((c : ℕ) → method_in heads skip name desc c ≡ None) → (n c : ℕ) → rank_of heads c < n → ClassSearch heads skip name desc c None
+search-none-below heads skip name desc acyclic none zero c lt = absurd (omega arith)
+search-none-below heads skip name desc acyclic none (suc n) c lt =
+    search-none-by heads skip name desc c (superclass_of heads c) refl (none c)
+    (λ d e. search-none-below heads skip name desc acyclic none n d (omega (arith, rank-falls heads acyclic c d (superclass-direct heads c d e))))
+
+-- then the look-up ends in the library
+pub finds-library : (heads : List ClassHead) (index : BTreeMap (List ℕ) (List ℕ)) (skip : Skip) (name desc : List ℕ) → IsNowhere (IsCyclic heads) → IsIndexOf Method heads index → classes_at index name ≡ [] → (c : ℕ)
+    → Finds heads skip name desc c AtLibrary
+finds-library heads index skip name desc acyclic are none c =
+    in_no_class (search-none-below heads skip name desc acyclic (none-declared heads index skip name desc are none) (suc (rank_of heads c)) c (omega arith))
+    (none-left heads name desc c (λ i left.
+    let e : method_in heads NoDefault name desc i ≡ None = none-declared heads index NoDefault name desc are none i in
+    let f : method_in heads NoDefault name desc i ≡ Some left.0 = left.1.candidate.declared in
+    cc (e, f)))
 
 pub place-there : (o : Option ℕ) → is_some o ≡ true → (k : ℕ) × (o ≡ Some k)
 place-there None e = absurd (cc e)

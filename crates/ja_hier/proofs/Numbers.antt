@@ -26,10 +26,10 @@ member-fits heads members c k head found lt most =
     let at : get_or heads c head ≡ head = get_or_from_slice_get heads c head head found in
     omega (arith, sum_by_more_le members heads c head inside, ap members at)
 
-no-field : HeadField
+pub no-field : HeadField
 no-field = record { name = []; desc = []; flags = 0; text = false }
 
-no-method : HeadMethod
+pub no-method : HeadMethod
 no-method = record { name = []; desc = []; flags = 0 }
 
 pub field-inside : (heads : List ClassHead) (name desc : List ℕ) (c k : ℕ) (head : ClassHead) → slice_get heads c ≡ Some head → field_in heads name desc c ≡ Some k → k < length head.fields

@@ -6,28 +6,10 @@ use Rattle.ja_ir.specs.declared.head.HeadMethod.{HeadMethod}
 use Rattle.ja_ir.specs.Lookup.{has_flag, is_static}
 use Rattle.ja_hier.specs.declared.fault.HierFault.{HierFault}
 use Rattle.ja_hier.specs.declared.fault.HierFault.TheVariants.{PlatformClass, Duplicate, Cycle, CrossPackage, Memory}
-use Rattle.ja_hier.specs.Supertypes.{IsSupertype, IsSuperclass}
-
--- the class lies in a package of the platform
-pub record IsPlatform (heads : List ClassHead) (c : ℕ) : Type 0 where
-  pub head : ClassHead
-  pub found : slice_get heads c ≡ Some head
-  pub rest : List ℕ
-  pub begins : head.name ≡ codes "java/" ++ rest
-
--- an earlier class has the name of class c
-pub record IsDuplicate (heads : List ClassHead) (c : ℕ) : Type 0 where
-  pub b : ℕ
-  pub earlier : b < c
-  pub head : ClassHead
-  pub found : slice_get heads c ≡ Some head
-  pub other : ClassHead
-  pub found_other : slice_get heads b ≡ Some other
-  pub same : other.name ≡ head.name
-
--- class c is its own proper supertype
-abbrev pub IsCyclic : List ClassHead → (c : ℕ) → Type 0
-IsCyclic heads c = IsSupertype heads c c
+use Rattle.ja_supers.specs.declared.fault.ClassFault.{ClassFault}
+use Rattle.ja_supers.specs.declared.fault.ClassFault.TheVariants.{PlatformClass as InPlatform, Duplicate as AgainDeclared, Cycle as InCycle, Memory as NoMemory}
+use Rattle.ja_supers.specs.Faults.{IsPlatform, IsDuplicate, IsCyclic, IsFirst, IsNowhere}
+use Rattle.ja_supers.specs.Supertypes.{IsSuperclass}
 
 -- the package of a class: its name up to the last `/`, so each byte after which one comes (JVM specification 5.3)
 abbrev pub package_of : (name : List ℕ) → List ℕ
@@ -85,15 +67,6 @@ pub record CrossesPackage (heads : List ClassHead) (c k : ℕ) : Type 0 where
 abbrev pub IsCrossing : List ClassHead → (c : ℕ) → Type 0
 IsCrossing heads c = (k : ℕ) × CrossesPackage heads c k
 
--- c is the first for which it holds
-pub record IsFirst (P : ℕ → Type 0) (c : ℕ) : Type 0 where
-  pub holds : P c
-  pub before : (b : ℕ) → b < c → P b → ⊥
-
--- it holds for no class
-abbrev pub IsNowhere : (ℕ → Type 0) → Type 0
-IsNowhere P = (c : ℕ) → P c → ⊥
-
 -- no class lies in a package of the platform, names are distinct, no class is its own supertype, and no package-private method is redeclared in another package
 pub record IsHierarchy (heads : List ClassHead) : Type 0 where
   pub platform : IsNowhere (IsPlatform heads)
@@ -109,3 +82,10 @@ IsFault heads (Cycle c) = IsNowhere (IsPlatform heads) × IsNowhere (IsDuplicate
 IsFault heads (CrossPackage c k) =
     IsNowhere (IsPlatform heads) × IsNowhere (IsDuplicate heads) × IsNowhere (IsCyclic heads) × IsFirst (IsCrossing heads) c × IsFirst (CrossesPackage heads c) k
 IsFault heads Memory = Unit {0}
+
+-- a fault of the classes as a fault of the hierarchy
+abbrev pub of_classes : ClassFault → HierFault
+of_classes (InPlatform c) = PlatformClass c
+of_classes (AgainDeclared c) = Duplicate c
+of_classes (InCycle c) = Cycle c
+of_classes NoMemory = Memory

@@ -1,66 +1,70 @@
--- What the tables of a hierarchy hold.
-use Rattle.std.specs.Prelude.{◌≡◌, ℕ, ◌<◌, ◌≤◌, ◌^◌, ◌↔◌, ◌++◌, Bool, true, false, List, [], ◌∷◌, Option, Some, Contains, filter_map, length, map, option_to_list, slice_index_or, sum_by, take}
+-- What the tables of a hierarchy hold, and what look-ups by them find on the way. Only private functions cite this.
+use Rattle.std.specs.Prelude.{◌≡◌, ℕ, ◌<◌, ◌⊎◌, Bool, true, List, [], ◌∷◌, Option, Some, Contains, length, map, slice_get, slice_index_or, sum_by, take, unwrap_or}
+use Rattle.std.specs.Ordering.{nat_cmp}
+use Rattle.std.specs.Cmp.Lexicographic.{slice_cmp}
+use Rattle.std.specs.BTreeMap.{BTreeMap, get}
 use Rattle.ja_ir.specs.declared.head.ClassHead.{ClassHead}
-use Rattle.ja_hier.specs.declared.tables.Tables.{Tables}
+use Rattle.ja_ir.specs.declared.head.HeadField.{HeadField}
 use Rattle.ja_ir.specs.declared.head.HeadMethod.{HeadMethod}
-use Rattle.ja_hier.specs.Faults.{IsHierarchy, is_package_private}
+use Rattle.ja_supers.specs.Faults.{AreClasses}
+use Rattle.ja_supers.specs.Supertypes.{IsAtOrAbove, IsDirect, IsSuperclass, IsSuperinterface}
+use Rattle.ja_hier.specs.declared.tables.Tables.{Tables}
 use Rattle.ja_hier.specs.declared.skip.Skip.TheVariants.{NoDefault}
+use Rattle.ja_hier.specs.declared.starts.Member.{Member}
 use Rattle.ja_hier.specs.declared.starts.Member.TheVariants.{Field, Method}
-use Rattle.ja_hier.specs.Members.{count_of}
-use Rattle.ja_hier.specs.Rows.{ShowsAll}
-use Rattle.ja_hier.specs.Supertypes.{names_of, place_of, place_of_some, IsDirect, IsSupertype, IsSuperinterface, HasLibrarySupertype}
-use Rattle.ja_hier.specs.LookUps.{method_in, method_number, IsDeclaredAbove, IsLeft, FieldSearch}
-
--- the place of the direct superclass of each class, where it is a program class
-abbrev pub superclass_places : List ClassHead → List (Option ℕ)
-superclass_places heads = map (λ (head : ClassHead). place_of_some (names_of heads) head.superclass) heads
-
--- the places of the program classes among the direct superinterfaces of each class
-abbrev pub interface_places : List ClassHead → List (List ℕ)
-interface_places heads = map (λ (head : ClassHead). filter_map (place_of (names_of heads)) head.interfaces) heads
-
--- the places of the direct supertypes of each class that are program classes
-abbrev pub supertype_places : List ClassHead → List (List ℕ)
-supertype_places heads =
-    map (λ (head : ClassHead). filter_map (place_of (names_of heads)) head.interfaces ++ option_to_list (place_of_some (names_of heads) head.superclass)) heads
-
--- each class has a list of those that the relation says of it
-pub record Lists (heads : List ClassHead) (R : (c d : ℕ) → Type 0) (lists : List (List ℕ)) : Type 0 where
-  pub size : length lists ≡ length heads
-  pub exact : (c d : ℕ) → c < length heads → Contains (slice_index_or lists c []) d ↔ R c d
+use Rattle.ja_hier.specs.Faults.{Hides, is_package_private}
+use Rattle.ja_hier.specs.Members.{count_of, IsNumbered}
+use Rattle.ja_hier.specs.LookUps.{field_in, method_in, method_number, IsCandidate, IsDeclaredAbove, IsLeft, FieldSearch}
 
 -- for each class the number of the members that the classes before it declare
 pub record AreStarts (heads : List ClassHead) (members : ClassHead → ℕ) (starts : List ℕ) : Type 0 where
   pub size : length starts ≡ length heads
   pub each : (c : ℕ) → c < length heads → slice_index_or starts c 0 ≡ sum_by members (take c heads)
 
--- the flags say which classes have a library class other than `java/lang/Object` above them
-pub record ShowsForeign (heads : List ClassHead) (flags : List Bool) : Type 0 where
-  pub size : length flags ≡ length heads
-  pub exact : (c : ℕ) → c < length heads → (slice_index_or flags c false ≡ true) ↔ HasLibrarySupertype heads c
+-- the names of the members of a kind that a class declares
+abbrev pub member_names : Member → ClassHead → List (List ℕ)
+member_names Field head = map (λ (field : HeadField). field.name) head.fields
+member_names Method head = map (λ (method : HeadMethod). method.name) head.methods
 
--- no more classes, fields and methods than can be numbered
-pub record IsNumbered (heads : List ClassHead) : Type 0 where
-  pub classes : length heads ≤ 2 ^ 26
-  pub fields : sum_by (count_of Field) heads ≤ 2 ^ 26
-  pub methods : sum_by (count_of Method) heads ≤ 2 ^ 26
+-- the classes that an index has for a name
+abbrev pub classes_at : BTreeMap (List ℕ) (List ℕ) → (name : List ℕ) → List ℕ
+classes_at index name = unwrap_or (get (slice_cmp nat_cmp) index name) []
+
+-- the index has for each name only classes of the list, and each that declares a member of this name
+pub record IsIndexOf (member : Member) (heads : List ClassHead) (index : BTreeMap (List ℕ) (List ℕ)) : Type 0 where
+  pub inside : (name : List ℕ) (c : ℕ) → Contains (classes_at index name) c → c < length heads
+  pub complete : (name : List ℕ) (c : ℕ) (head : ClassHead) → slice_get heads c ≡ Some head → Contains (member_names member head) name → Contains (classes_at index name) c
+
+-- class c is noted for each of the names, and nothing else has changed
+pub record IsNoted (c : ℕ) (names : List (List ℕ)) (old new : BTreeMap (List ℕ) (List ℕ)) : Type 0 where
+  pub kept : (name : List ℕ) (d : ℕ) → Contains (classes_at old name) d → Contains (classes_at new name) d
+  pub only : (name : List ℕ) (d : ℕ) → Contains (classes_at new name) d → Contains (classes_at old name) d ⊎ (d ≡ c)
+  pub noted : (name : List ℕ) → Contains names name → Contains (classes_at new name) c
 
 -- the tables are those of a hierarchy
 pub record IsIndexed (tables : Tables) : Type 0 where
-  pub valid : IsHierarchy tables.heads
-  pub numbered : IsNumbered tables.heads
-  pub superclasses : tables.superclasses ≡ superclass_places tables.heads
-  pub supertypes : tables.supertypes ≡ supertype_places tables.heads
-  pub above : ShowsAll tables.heads tables.above
-  pub supers : Lists tables.heads (IsSupertype tables.heads) tables.supers
-  pub faces : Lists tables.heads (IsSuperinterface tables.heads) tables.faces
-  pub foreign : ShowsForeign tables.heads tables.foreign
-  pub field_starts : AreStarts tables.heads (count_of Field) tables.field_starts
-  pub method_starts : AreStarts tables.heads (count_of Method) tables.method_starts
+  pub valid : AreClasses tables.classes
+  pub numbered : IsNumbered tables.classes
+  pub field_starts : AreStarts tables.classes (count_of Field) tables.field_starts
+  pub method_starts : AreStarts tables.classes (count_of Method) tables.method_starts
+  pub fields : IsIndexOf Field tables.classes tables.field_classes
+  pub methods : IsIndexOf Method tables.classes tables.method_classes
 
 -- there is a place
 abbrev pub IsSomePlace : Option ℕ → Type 0
 IsSomePlace place = (k : ℕ) × (place ≡ Some k)
+
+-- class e is class c or above it and declares the field
+pub record DeclaresFor (heads : List ClassHead) (name desc : List ℕ) (c e : ℕ) : Type 0 where
+  pub above : IsAtOrAbove heads c e
+  pub declared : IsSomePlace (field_in heads name desc e)
+
+-- a superclass d of class c, whose head is given, hides a method of class c
+pub record HidesAt (heads : List ClassHead) (c : ℕ) (head : ClassHead) (method : HeadMethod) (d : ℕ) : Type 0 where
+  pub superclass : IsSuperclass heads c d
+  pub above : ClassHead
+  pub found : slice_get heads d ≡ Some above
+  pub hides : Hides head above method
 
 -- the search for a field that goes on from class c finds at class d what it finds at c
 pub record LeadsOn (heads : List ClassHead) (name desc : List ℕ) (c d : ℕ) : Type 0 where
@@ -68,13 +72,18 @@ pub record LeadsOn (heads : List ClassHead) (name desc : List ℕ) (c d : ℕ) :
   pub declared : IsDeclaredAbove heads name desc d
   pub finds : (f : ℕ) → FieldSearch heads name desc (d ∷ []) (Some f) → FieldSearch heads name desc (c ∷ []) (Some f)
 
--- interface j declares a method with code and is a proper subinterface of i
-abbrev pub Overrides : List ClassHead → (name desc : List ℕ) → (j i : ℕ) → Type 0
-Overrides heads name desc j i = (k : ℕ) × (method_in heads NoDefault name desc j ≡ Some k) × IsSuperinterface heads j i
+-- class c may inherit a method with code of interface i
+abbrev pub IsSomeCandidate : List ClassHead → (name desc : List ℕ) → (c i : ℕ) → Type 0
+IsSomeCandidate heads name desc c i = (k : ℕ) × IsCandidate heads name desc c i k
 
--- such an interface is a superinterface of class c
+-- class c may inherit a method with code of interface j, which is a proper subinterface of i
+pub record Overrides (heads : List ClassHead) (name desc : List ℕ) (c j i : ℕ) : Type 0 where
+  pub candidate : IsSomeCandidate heads name desc c j
+  pub below : IsSuperinterface heads j i
+
+-- there is such an interface
 abbrev pub IsOverridden : List ClassHead → (name desc : List ℕ) → (c i : ℕ) → Type 0
-IsOverridden heads name desc c i = (j : ℕ) × IsSuperinterface heads c j × Overrides heads name desc j i
+IsOverridden heads name desc c i = (j : ℕ) × Overrides heads name desc c j i
 
 -- some method of i is left
 abbrev pub IsSomeLeft : List ClassHead → (name desc : List ℕ) → (c i : ℕ) → Type 0

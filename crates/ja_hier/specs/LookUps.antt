@@ -9,11 +9,11 @@ use Rattle.ja_ir.specs.Lookup.{is_abstract}
 use Rattle.ja_hier.specs.declared.field_at.FieldAt.{FieldAt}
 use Rattle.ja_hier.specs.declared.field_at.FieldAt.TheVariants.{Program, Library, Missing}
 use Rattle.ja_hier.specs.declared.skip.Skip.{Skip}
-use Rattle.ja_hier.specs.declared.skip.Skip.TheVariants.{Nothing, NotVirtual, NoDefault}
+use Rattle.ja_hier.specs.declared.skip.Skip.TheVariants.{NoMethod, NotVirtual, NoDefault}
 use Rattle.ja_hier.specs.declared.starts.Member.TheVariants.{Field, Method}
 use Rattle.ja_hier.specs.Members.{count_of}
 use Rattle.ja_hier.specs.Faults.{is_virtual}
-use Rattle.ja_hier.specs.Supertypes.{supertypes_of, superclass_of, IsAtOrAbove, IsSuperinterface, HasLibrarySupertype}
+use Rattle.ja_supers.specs.Supertypes.{supertypes_of, superclass_of, IsAtOrAbove, IsSuperinterface, HasLibrarySupertype}
 
 -- the fields that a class declares
 abbrev pub fields_of : Option ClassHead → List HeadField
@@ -58,7 +58,7 @@ pub data FindsField (heads : List ClassHead) (name desc : List ℕ) (c : ℕ) : 
 
 -- a look-up passes over methods of these flags
 abbrev pub skips : Skip → (flags : ℕ) → Bool
-skips Nothing flags = false
+skips NoMethod flags = false
 skips NotVirtual flags = not (is_virtual flags)
 skips NoDefault flags = not (is_virtual flags && not (is_abstract flags))
 

@@ -1,5 +1,5 @@
 -- Counts of members.
-use Rattle.std.specs.Prelude.{ℕ, length}
+use Rattle.std.specs.Prelude.{ℕ, ◌≤◌, ◌^◌, List, length, sum_by}
 use Rattle.ja_ir.specs.declared.head.ClassHead.{ClassHead}
 use Rattle.ja_hier.specs.declared.starts.Member.{Member}
 use Rattle.ja_hier.specs.declared.starts.Member.TheVariants.{Field, Method}
@@ -8,3 +8,9 @@ use Rattle.ja_hier.specs.declared.starts.Member.TheVariants.{Field, Method}
 abbrev pub count_of : Member → ClassHead → ℕ
 count_of Field head = length head.fields
 count_of Method head = length head.methods
+
+-- no more classes, fields and methods than can be numbered
+pub record IsNumbered (heads : List ClassHead) : Type 0 where
+  pub classes : length heads ≤ 2 ^ 26
+  pub fields : sum_by (count_of Field) heads ≤ 2 ^ 26
+  pub methods : sum_by (count_of Method) heads ≤ 2 ^ 26

@@ -1,32 +1,23 @@
-ghost use Rattle.std.specs.Prelude.{◌≡◌, ℕ, ◌<◌, ◌≤◌, ◌^◌, ◌↔◌, Some, length, map, slice_get, IsTrue, IfErr, IfSome, IfNone, OnOk};
-ghost use Rattle.ja_hier.specs.Faults.{IsFault, IsFirst, IsNowhere, IsPlatform, IsDuplicate, IsCyclic, IsCrossing, Hides, Crosses, CrossesPackage};
-ghost use Rattle.ja_hier.specs.Index.{superclass_places, IsHiddenAmong};
-ghost use Rattle.ja_hier.specs.Rows.{ShowsAll};
+ghost use Rattle.std.specs.Prelude.{◌≡◌, ℕ, ◌<◌, ◌↔◌, Some, codes, length, slice_get, IsTrue, IfErr, IfSome, IfNone, OnOk};
+ghost use Rattle.ja_supers.specs.Faults.{IsFirst, IsNowhere};
+ghost use Rattle.ja_hier.specs.Faults.{IsFault, IsCrossing, Hides, Crosses, CrossesPackage};
+ghost use Rattle.ja_hier.specs.Index.{HidesAt, IsHiddenAmong, IsIndexed};
 
 use crate::HierFault;
 use crate::flags::{is_package_private, is_virtual};
+use crate::index::noted;
 use crate::package::same_package;
+use crate::tables::Tables;
 use ja_ir::{ClassHead, HeadMethod};
-use ja_sets::TokenSet;
 
 /// Refuses a method that redeclares a package-private method of a superclass in another package.
-pub fn check_packages(
-    heads: &[ClassHead],
-    superclasses: &[Option<u32>],
-    above: &[TokenSet],
-) -> Result<(), HierFault>
-    requires few { length heads.now ≤ 2 ^ 26 }
-    requires fewer { (c : ℕ) (head : ClassHead) → slice_get heads.now c ≡ Some head → length head.methods ≤ 2 ^ 26 }
-    requires superclasses { superclasses.now ≡ superclass_places heads.now }
-    requires above { ShowsAll heads.now above.now }
-    requires platform { IsNowhere (IsPlatform heads.now) }
-    requires distinct { IsNowhere (IsDuplicate heads.now) }
-    requires acyclic { IsNowhere (IsCyclic heads.now) }
-    ensures ok { OnOk result (IsNowhere (IsCrossing heads.now)) }
-    ensures err { IfErr result (IsFault heads.now) }
+pub fn check_packages(tables: &Tables) -> Result<(), HierFault>
+    requires { IsIndexed tables.now }
+    ensures ok { OnOk result (IsNowhere (IsCrossing tables.now.classes)) }
+    ensures err { IfErr result (IsFault tables.now.classes) }
 {
-    for class in 0..heads.len() {
-        if let Some(method) = crossing_method(heads, superclasses, above, class as u32) {
+    for class in 0..tables.classes.heads().len() {
+        if let Some(method) = crossing_method(tables, class as u32) {
             return Err(HierFault::CrossPackage {
                 class: class as u32,
                 method,
@@ -37,24 +28,16 @@ pub fn check_packages(
 }
 
 /// The first method of a class that redeclares a package-private method of another package.
-fn crossing_method(
-    heads: &[ClassHead],
-    superclasses: &[Option<u32>],
-    above: &[TokenSet],
-    class: u32,
-) -> Option<u32>
-    requires fewer { (c : ℕ) (head : ClassHead) → slice_get heads.now c ≡ Some head → length head.methods ≤ 2 ^ 26 }
-    requires superclasses { superclasses.now ≡ superclass_places heads.now }
-    requires above { ShowsAll heads.now above.now }
-    requires acyclic { IsNowhere (IsCyclic heads.now) }
-    requires inside { class < length heads.now }
-    ensures some { IfSome result (λ k. IsFirst (CrossesPackage heads.now class) k) }
-    ensures none { IfNone result ((k : ℕ) → CrossesPackage heads.now class k → ⊥) }
+fn crossing_method(tables: &Tables, class: u32) -> Option<u32>
+    requires indexed { IsIndexed tables.now }
+    requires inside { class < length tables.now.classes }
+    ensures some { IfSome result (λ k. IsFirst (CrossesPackage tables.now.classes class) k) }
+    ensures none { IfNone result ((k : ℕ) → CrossesPackage tables.now.classes class k → ⊥) }
 {
-    let head = &heads[class as usize];
+    let head = tables.classes.heads().at(class as u64);
     let methods = head.methods.as_slice();
     for k in 0..methods.len() {
-        if crosses(heads, superclasses, above, class, &methods[k]) {
+        if crosses(tables, class, head, &methods[k]) {
             return Some(k as u32);
         }
     }
@@ -62,40 +45,50 @@ fn crossing_method(
 }
 
 /// Whether a method of a class redeclares a package-private method of a superclass in another package.
-fn crosses(
-    heads: &[ClassHead],
-    superclasses: &[Option<u32>],
-    above: &[TokenSet],
-    class: u32,
-    method: &HeadMethod,
-) -> bool
-    requires superclasses { superclasses.now ≡ superclass_places heads.now }
-    requires above { ShowsAll heads.now above.now }
-    requires acyclic { IsNowhere (IsCyclic heads.now) }
-    requires inside { class < length heads.now }
-    ensures { (head : ClassHead) → slice_get heads.now class ≡ Some head → IsTrue result ↔ Crosses heads.now class head method.now }
+fn crosses(tables: &Tables, class: u32, head: &ClassHead, method: &HeadMethod) -> bool
+    requires indexed { IsIndexed tables.now }
+    requires found { slice_get tables.now.classes class ≡ Some head.now }
+    ensures { IsTrue result ↔ Crosses tables.now.classes class head.now method.now }
 {
-    let head = &heads[class as usize];
     if !is_virtual(method.flags) {
         return false;
     }
-    let mut at = superclasses[class as usize];
-    while let Some(superclass) = at {
-        if hides(head, &heads[superclass as usize], method) {
+    if is_constructor(method) {
+        return false;
+    }
+    let listed = noted(&tables.method_classes, &method.name);
+    for other in listed {
+        if hides_at(tables, class, head, method, *other as u32) {
             return true;
         }
-        at = superclasses[superclass as usize];
     }
     false
+}
+
+/// Whether the other class is a superclass that hides a method of a class.
+fn hides_at(tables: &Tables, class: u32, head: &ClassHead, method: &HeadMethod, other: u32) -> bool
+    requires inside { class < length tables.now.classes }
+    requires other_inside { other < length tables.now.classes }
+    ensures { IsTrue result ↔ HidesAt tables.now.classes class head.now method.now other }
+{
+    tables.classes.is_superclass(class, other)
+        && hides(head, tables.classes.heads().at(other as u64), method)
 }
 
 /// Whether a class in another package declares a package-private method that the method redeclares.
 fn hides(head: &ClassHead, above: &ClassHead, method: &HeadMethod) -> bool
     ensures { IsTrue result ↔ Hides head.now above.now method.now }
 {
-    !same_package(&head.name, &above.name)
-        && method.name.bytes() != b"<init>".as_slice()
-        && declares_hidden(above.methods.as_slice(), method)
+    declares_hidden(above.methods.as_slice(), method)
+        && !is_constructor(method)
+        && !same_package(&head.name, &above.name)
+}
+
+/// Whether the method is a constructor (JVM specification 2.9.1).
+fn is_constructor(method: &HeadMethod) -> bool
+    ensures { IsTrue result ↔ (method.now.name ≡ codes "<init>") }
+{
+    method.name.bytes() == b"<init>".as_slice()
 }
 
 /// Whether one of the methods is package-private and has the name and descriptor.

@@ -1,5 +1,8 @@
 ghost use Rattle.std.specs.Prelude.{◌≡◌};
 ghost use Rattle.ja_hier.specs.declared.fault.HierFault.TheVariants.{Memory};
+ghost use Rattle.ja_hier.specs.Faults.{of_classes};
+
+use ja_supers::ClassFault;
 
 /// Why classes are no hierarchy. A class is named by its place in the list, a method by its place in its
 /// class.
@@ -22,5 +25,18 @@ impl From<ja_base::Memory> for HierFault {
 
     fn from(_error: ja_base::Memory) -> HierFault {
         HierFault::Memory
+    }
+}
+
+impl From<ClassFault> for HierFault {
+    ghost from_gives = { λ fault hier. hier ≡ of_classes fault };
+
+    fn from(fault: ClassFault) -> HierFault {
+        match fault {
+            ClassFault::PlatformClass { class } => HierFault::PlatformClass { class },
+            ClassFault::Duplicate { class } => HierFault::Duplicate { class },
+            ClassFault::Cycle { class } => HierFault::Cycle { class },
+            ClassFault::Memory => HierFault::Memory,
+        }
     }
 }

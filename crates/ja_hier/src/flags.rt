@@ -41,7 +41,7 @@ pub fn skips(skip: Skip, flags: u32) -> bool
     ensures { result ≡ lookups.skips skip flags }
 {
     match skip {
-        Skip::Nothing => false,
+        Skip::NoMethod => false,
         Skip::NotVirtual => !is_virtual(flags),
         Skip::NoDefault => !(is_virtual(flags) && !is_abstract(flags)),
     }

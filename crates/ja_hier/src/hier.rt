@@ -1,27 +1,22 @@
-ghost use Rattle.std.specs.Prelude.{◌≡◌, ◌<◌, ◌≤◌, ◌^◌, ◌↔◌, length, IsTrue, IfOk, IfErr, OnOk};
-ghost use Rattle.ja_hier.specs.declared.skip.Skip.TheVariants.{Nothing, NotVirtual};
+ghost use Rattle.std.specs.Prelude.{◌≡◌, ℕ, List, ◌<◌, ◌↔◌, Some, None, length, IsTrue, IfOk, IfErr, IfSome, IfNone, OnOk};
+ghost use Rattle.ja_hier.specs.declared.skip.Skip.TheVariants.{NoMethod, NotVirtual};
 ghost use Rattle.ja_hier.specs.Faults.{IsFault, IsHierarchy};
-ghost use Rattle.ja_hier.specs.Index.{IsIndexed, IsNumbered, Lists, ShowsForeign, supertype_places};
-ghost use Rattle.ja_hier.specs.Rows.{ShowsAll};
+ghost use Rattle.ja_hier.specs.Index.{IsIndexed};
+ghost use Rattle.ja_hier.specs.Members.{IsNumbered};
 ghost use Rattle.ja_hier.specs.LookUps.{FindsField, Finds};
-ghost use Rattle.ja_hier.specs.Supertypes.{names_of, IsAtOrAbove, IsSupertype, IsSuperinterface};
+ghost use Rattle.ja_supers.specs.LibraryTypes.{AreLibraryTypes, IsNearest};
+ghost use Rattle.ja_supers.specs.Supertypes as supertypes;
+ghost use Rattle.ja_supers.specs.Supertypes.{superclass_of, AreSupertypes, IsAtOrAbove, IsSuperclass};
 
-use crate::closure::close;
-use crate::copy::copy_heads;
 use crate::crossing::check_packages;
-use crate::cycle::check_cycles;
-use crate::direct::{interface_places, sets_of, superclass_places, supertype_places};
-use crate::foreign::{own_flags, raise};
-use crate::gather::{gather, members};
-use crate::names::{check_platform, number_names};
+use crate::index::classes_by_member;
 use crate::skip::Skip;
 use crate::starts::{Member, starts};
 use crate::tables::Tables;
 use crate::{FieldAt, HierFault, fields, methods};
-use indexmap::IndexSet;
-use ja_base::{ClassId, Flags, Memory, Name, Numbers, Seq};
+use ja_base::{ClassId, Name, Names, Numbers, Seq};
 use ja_ir::{ClassHead, MethodAt};
-use ja_sets::TokenSet;
+use ja_supers::{Classes, classes_of};
 use std::alloc::Global;
 use std::marker::Model;
 
@@ -42,7 +37,7 @@ impl Model for Hier {
 
     ghost use Rattle.ja_hier.specs.Index.{IsIndexed};
 
-    ghost view = { λ hier. hier.tables.heads };
+    ghost view = { λ hier. hier.tables.classes };
 
     ghost invariant = { λ hier. IsIndexed hier.tables };
 }
@@ -61,98 +56,118 @@ pub fn hierarchy(alloc: Global, heads: &[ClassHead]) -> Result<Hier, HierFault>
     ensures fault { IfErr result (IsFault heads.now) }
 {
     let tables = tables_of(alloc, heads)?;
+    check_packages(&tables)?;
     Ok(Hier { tables })
 }
 
 fn tables_of(alloc: Global, heads: &[ClassHead]) -> Result<Tables, HierFault>
     requires { IsNumbered heads.now }
-    ensures heads { IfOk result (λ tables. tables.heads ≡ heads.now) }
+    ensures heads { IfOk result (λ tables. tables.classes ≡ heads.now) }
     ensures indexed { IfOk result IsIndexed }
     ensures fault { IfErr result (IsFault heads.now) }
 {
-    check_platform(heads)?;
-    let names = number_names(alloc, heads)?;
-    let superclasses = superclass_places(alloc, heads, &names)?;
-    let supertypes = supertype_places(alloc, heads, &names)?;
-    let above = all_supertypes(alloc, heads, supertypes.as_slice())?;
-    check_cycles(heads, above.as_slice())?;
-    check_packages(heads, superclasses.as_slice(), above.as_slice())?;
-    let supers = members(alloc, above.as_slice(), heads.len() as u32)?;
-    let faces = all_faces(alloc, heads, &names, supers.as_slice())?;
-    let foreign = all_foreign(alloc, heads, &names, supers.as_slice())?;
-    let copies = copy_heads(alloc, heads)?;
+    let classes = classes_of(alloc, heads)?;
     let field_starts = starts(alloc, heads, Member::Field)?;
     let method_starts = starts(alloc, heads, Member::Method)?;
+    let field_classes = classes_by_member(alloc, heads, Member::Field)?;
+    let method_classes = classes_by_member(alloc, heads, Member::Method)?;
     Ok(Tables {
-        heads: copies,
-        superclasses,
-        supertypes,
-        above: Seq::from_vec(above),
-        supers,
-        faces,
-        foreign,
+        classes,
         field_starts,
         method_starts,
+        field_classes,
+        method_classes,
     })
 }
 
-/// The proper supertypes of each class.
-fn all_supertypes(
-    alloc: Global,
-    heads: &[ClassHead],
-    supertypes: &[Numbers],
-) -> Result<Vec<TokenSet>, Memory>
-    requires few { length heads.now ≤ 2 ^ 26 }
-    requires supertypes { supertypes.now ≡ supertype_places heads.now }
-    ensures { IfOk result (λ rows. ShowsAll heads.now rows.items) }
+/// Whether another class is a class or a proper supertype of it.
+pub fn is_at_or_above(classes: &Classes, class: u32, other: u32) -> bool
+    requires inside { class < length classes.now }
+    requires other_inside { other < length classes.now }
+    ensures { IsTrue result ↔ IsAtOrAbove classes.now class other }
 {
-    let mut rows = sets_of(alloc, supertypes, heads.len() as u32)?;
-    close(alloc, heads, rows.as_mut_slice())?;
-    Ok(rows)
-}
-
-/// The proper superinterfaces of each class.
-fn all_faces(
-    alloc: Global,
-    heads: &[ClassHead],
-    names: &IndexSet<Name>,
-    supers: &[Numbers],
-) -> Result<Seq<Numbers>, Memory>
-    requires few { length heads.now ≤ 2 ^ 26 }
-    requires names { names.now.keys ≡ names_of heads.now }
-    requires supers { Lists heads.now (IsSupertype heads.now) supers.now }
-    ensures { IfOk result (Lists heads.now (IsSuperinterface heads.now)) }
-{
-    let len = heads.len() as u32;
-    let interfaces = interface_places(alloc, heads, names)?;
-    let own = sets_of(alloc, interfaces.as_slice(), len)?;
-    let faces = gather(alloc, own.as_slice(), supers, len)?;
-    members(alloc, faces.as_slice(), len)
-}
-
-/// Which classes have a library class other than `java/lang/Object` above them.
-fn all_foreign(
-    alloc: Global,
-    heads: &[ClassHead],
-    names: &IndexSet<Name>,
-    supers: &[Numbers],
-) -> Result<Flags, Memory>
-    requires names { names.now.keys ≡ names_of heads.now }
-    requires supers { Lists heads.now (IsSupertype heads.now) supers.now }
-    ensures { IfOk result (ShowsForeign heads.now) }
-{
-    let own = own_flags(alloc, heads, names)?;
-    raise(alloc, own.as_slice(), supers)
+    class == other || classes.is_supertype(class, other)
 }
 
 impl Hier {
+    /// The heads of the classes, in order.
+    pub fn heads(&self) -> &Seq<ClassHead>
+        ensures { result.now ≡ self.now }
+    {
+        self.tables.classes.heads()
+    }
+
+    /// The program class of a name; a name that no class has is one of the library. It takes no memory.
+    pub fn class_named(&self, name: &Name) -> Option<ClassId>
+        ensures some { IfSome result (λ c. supertypes.class_named self.now name.now ≡ Some c.0) }
+        ensures none { IfNone result (supertypes.class_named self.now name.now ≡ None) }
+        ensures inside { IfSome result (λ c. c.0 < length self.now) }
+    {
+        match self.tables.classes.class_named(name) {
+            Some(class) => Some(ClassId(class)),
+            None => None,
+        }
+    }
+
+    /// The direct superclass of a class, where it is a program class. It takes no memory.
+    pub fn superclass(&self, c: ClassId) -> Option<ClassId>
+        requires { c.0 < length self.now }
+        ensures some { IfSome result (λ d. superclass_of self.now c.0 ≡ Some d.0) }
+        ensures none { IfNone result (superclass_of self.now c.0 ≡ None) }
+        ensures inside { IfSome result (λ d. d.0 < length self.now) }
+    {
+        match self.tables.classes.superclass(c.0) {
+            Some(class) => Some(ClassId(class)),
+            None => None,
+        }
+    }
+
+    /// The numbers of the proper supertypes of a class that are program classes, in ascending order. It
+    /// takes no memory.
+    pub fn supertypes(&self, c: ClassId) -> &Numbers
+        requires { c.0 < length self.now }
+        ensures { AreSupertypes self.now c.0 result.now }
+    {
+        self.tables.classes.supertypes(c.0)
+    }
+
+    /// Whether class `d` is a proper superclass of class `c`. It takes no memory.
+    pub fn is_superclass(&self, c: ClassId, d: ClassId) -> bool
+        requires c { c.0 < length self.now }
+        requires d { d.0 < length self.now }
+        ensures { IsTrue result ↔ IsSuperclass self.now c.0 d.0 }
+    {
+        self.tables.classes.is_superclass(c.0, d.0)
+    }
+
+    /// The nearest superclass of a class that is one of the library, which may be `java/lang/Object`;
+    /// none where the way up ends in a program class that names no superclass. It takes no memory.
+    pub fn library_superclass(&self, c: ClassId) -> Option<&Name>
+        requires { c.0 < length self.now }
+        ensures some { IfSome result (λ name. IsNearest self.now c.0 name.now) }
+        ensures none { IfNone result ((name : List ℕ) → IsNearest self.now c.0 name → ⊥) }
+    {
+        self.tables.classes.library_superclass(c.0)
+    }
+
+    /// The library types of a class, by which table rows apply to it: its nearest library superclass,
+    /// where it is not `java/lang/Object`, then the library interfaces of the class and of its program
+    /// superclasses upwards, in declared order and each at its first place, where a program interface
+    /// gives way to its own interfaces. It takes no memory.
+    pub fn library_types(&self, c: ClassId) -> &Names
+        requires { c.0 < length self.now }
+        ensures { AreLibraryTypes self.now c.0 result.now }
+    {
+        self.tables.classes.library_types(c.0)
+    }
+
     /// Whether class `b` is class `a` or a proper supertype of it. It takes no memory.
     pub fn below(&self, a: ClassId, b: ClassId) -> bool
         requires a { a.0 < length self.now }
         requires b { b.0 < length self.now }
         ensures { IsTrue result ↔ IsAtOrAbove self.now a.0 b.0 }
     {
-        a.0 == b.0 || self.tables.above.at(a.0 as u64).contains(b.0)
+        is_at_or_above(&self.tables.classes, a.0, b.0)
     }
 
     /// Where the look-up of a field that is named in a class ends (JVM specification 5.4.3.2). It takes
@@ -169,9 +184,9 @@ impl Hier {
     /// superinterfaces (JVM specification 5.4.3.3), else the library. It takes no memory.
     pub fn find_method(&self, c: ClassId, name: &Name, desc: &Name) -> MethodAt
         requires { c.0 < length self.now }
-        ensures { Finds self.now Nothing name.now desc.now c.0 result }
+        ensures { Finds self.now NoMethod name.now desc.now c.0 result }
     {
-        methods::find(&self.tables, Skip::Nothing, c.0, name, desc)
+        methods::find(&self.tables, Skip::NoMethod, c.0, name, desc)
     }
 
     /// What a virtual call selects on an object of a class (JVM specification 6.5, invokevirtual):

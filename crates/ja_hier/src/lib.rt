@@ -1,22 +1,15 @@
-//! The class hierarchy of a program: what its classes may not have, their supertypes, and look-ups of
-//! fields and methods.
+//! The class hierarchy of a program: what its classes may not have, and look-ups of fields and methods.
 #![tactic(auto)]
 
-mod closure;
-mod copy;
 mod crossing;
-mod cycle;
-mod direct;
 mod fault;
 mod field_at;
 mod fields;
 mod flags;
-mod foreign;
-mod gather;
 mod hier;
+mod index;
 mod law;
 mod methods;
-mod names;
 mod package;
 mod skip;
 mod starts;

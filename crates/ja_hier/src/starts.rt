@@ -1,6 +1,6 @@
 ghost use Rattle.std.specs.Prelude.{◌≡◌, ◌≤◌, ◌^◌, ◌↔◌, sum_by, IfOk, IsTrue};
-ghost use Rattle.ja_hier.specs.Index.{AreStarts, IsNumbered};
-ghost use Rattle.ja_hier.specs.Members.{count_of};
+ghost use Rattle.ja_hier.specs.Index.{AreStarts};
+ghost use Rattle.ja_hier.specs.Members.{count_of, IsNumbered};
 
 use ja_base::{Memory, Numbers, Seq};
 use ja_ir::ClassHead;

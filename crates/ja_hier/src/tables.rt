@@ -1,26 +1,18 @@
-use ja_base::{Flags, Numbers, Seq};
-use ja_ir::ClassHead;
-use ja_sets::TokenSet;
+use crate::index::ClassesByName;
+use ja_base::Numbers;
+use ja_supers::Classes;
 
-/// The tables behind a hierarchy. Each has one item for each class, and names classes by their places.
+/// The tables behind a hierarchy.
 #[derive(Drop)]
 pub struct Tables {
-    pub heads: Seq<ClassHead>,
-    /// The direct superclass, where it is a program class.
-    pub superclasses: Seq<Option<u32>>,
-    /// The direct supertypes that are program classes: superinterfaces in declared order, then the
-    /// superclass.
-    pub supertypes: Seq<Numbers>,
-    /// The proper supertypes, as bits.
-    pub above: Seq<TokenSet>,
-    /// The proper supertypes, as a list.
-    pub supers: Seq<Numbers>,
-    /// The proper superinterfaces.
-    pub faces: Seq<Numbers>,
-    /// Whether a library class other than `java/lang/Object` is above the class.
-    pub foreign: Flags,
-    /// The number of the fields that the classes before declare.
+    /// The classes and their supertypes.
+    pub classes: Classes,
+    /// For each class the number of the fields that the classes before it declare.
     pub field_starts: Numbers,
-    /// The number of the methods that the classes before declare.
+    /// For each class the number of the methods that the classes before it declare.
     pub method_starts: Numbers,
+    /// For each name the classes that declare a field of it.
+    pub field_classes: ClassesByName,
+    /// For each name the classes that declare a method of it.
+    pub method_classes: ClassesByName,
 }

@@ -1,67 +1,54 @@
-use Rattle.std.proofs.Common.{◌≡◌, ℕ, ◌<◌, List, true, length, get_or, refl, sym, ap, ◌∙◌, subst, arith}
-use Rattle.std.specs.Prelude.{Option, Some, None, slice_get}
-use Rattle.std.proofs.lemmas.Option.{slice_get_read}
-use Rattle.ja_ir.specs.declared.head.ClassHead.{ClassHead}
+use Rattle.std.proofs.Common.{◌≡◌, ℕ, ◌<◌, List, length, get_or, true, refl, sym, ap, ◌∙◌, subst, arith, below_more}
+use Rattle.std.specs.Prelude.{Contains}
+use Rattle.std.proofs.lemmas.Option.{slice_get_within}
+use Rattle.ja_hier.specs.declared.starts.Member.TheVariants.{Method}
 use Rattle.ja_hier.specs.Faults.{Crosses}
-use Rattle.ja_hier.specs.Supertypes.{superclass_of}
-use Rattle.ja_hier.proofs.Climbs.{height-falls, looks-begin, looks-on, looks-found, looks-ended, looks-inside}
-use Rattle.ja_hier.proofs.Places.{superclass-at, length-superclasses}
-use Rattle.ja_hier.proofs.Up.{height}
+use Rattle.ja_hier.specs.Index.{HidesAt, classes_at}
+use Rattle.ja_hier.proofs.Crossings.{crosses-from, crosses-noted}
+use Rattle.ja_hier.proofs.Indexed.{at-item, noted-inside}
 use Rattle.ja_hier.proofs.crossing.crosses.Goals as goal
 
-pub bounds-heads-superclass : goal.bounds-heads-superclass
-bounds-heads-superclass c = looks-inside c.args.heads.now c.args.class c.index-heads-class.result c.args.method.now c.loop-at.at c.in-Some.superclass c.in-Some.is c.loop-at.invariant
+pub loop-other-init : goal.loop-other-init
+loop-other-init c = λ j lt. absurd (omega arith)
 
-pub bounds-superclasses-superclass : goal.bounds-superclasses-superclass
-bounds-superclasses-superclass c =
-    omega (
-      arith,
-      looks-inside c.args.heads.now c.args.class c.index-heads-class.result c.args.method.now c.loop-at.at c.in-Some.superclass c.in-Some.is c.loop-at.invariant,
-      ap (λ (ps : List (Option ℕ)). length ps) c.requires.superclasses,
-      length-superclasses c.args.heads.now,
-    )
+pub overflow_cast-other : goal.overflow_cast-other
+overflow_cast-other c =
+    let lt : c.loop-other.other-index < length c.noted-listed.result.now = omega arith in
+    let inside : get_or c.noted-listed.result.now c.loop-other.other-index 0 < length c.args.tables.now.classes =
+    noted-inside c.args.tables.now.classes Method c.args.tables.now.method_classes c.args.method.now.name c.noted-listed.result.now c.loop-other.other-index c.requires.indexed.methods c.noted-listed.ensures lt in
+    omega (arith, inside, c.requires.indexed.numbered.classes)
 
-pub returns-then-hides : goal.returns-then-hides
-returns-then-hides c = λ head found.
-    let own : slice_get c.args.heads.now c.args.class ≡ Some c.index-heads-class.result = slice_get_read c.args.heads.now (length c.args.heads.now) c.args.class c.index-heads-class.result refl c.requires.inside c.index-heads-class.is in
-    let eq : Some c.index-heads-class.result ≡ Some head = sym own ∙ found in
-    let same : c.index-heads-class.result ≡ head = cc eq in
-    let inside : c.in-Some.superclass < length c.args.heads.now = looks-inside c.args.heads.now c.args.class c.index-heads-class.result c.args.method.now c.loop-at.at c.in-Some.superclass c.in-Some.is c.loop-at.invariant in
-    let above : slice_get c.args.heads.now c.in-Some.superclass ≡ Some c.index-heads-superclass.result = slice_get_read c.args.heads.now (length c.args.heads.now) c.in-Some.superclass c.index-heads-superclass.result refl inside c.index-heads-superclass.is in (
-      λ t. subst (λ (h : ClassHead). Crosses c.args.heads.now c.args.class h c.args.method.now) same
-          (looks-found c.args.heads.now c.args.class c.index-heads-class.result c.args.method.now c.loop-at.at c.in-Some.superclass c.index-heads-superclass.result c.in-Some.is above
-          (c.hides.ensures.0 c.if-hides.true) (sym c.is_virtual.ensures ∙ c.if-not-is_virtual.false) c.loop-at.invariant),
-      λ crosses. refl,
-    )
+pub hides_at-requires-clause-inside : goal.hides_at-requires-clause-inside
+hides_at-requires-clause-inside c = slice_get_within c.args.tables.now.classes c.args.class c.args.head.now c.requires.found
 
-pub loop-at-smaller : goal.loop-at-smaller
-loop-at-smaller c =
-    let inside : c.in-Some.superclass < length c.args.heads.now = looks-inside c.args.heads.now c.args.class c.index-heads-class.result c.args.method.now c.loop-at.at c.in-Some.superclass c.in-Some.is c.loop-at.invariant in
-    let up : get_or c.args.superclasses.now c.in-Some.superclass None ≡ superclass_of c.args.heads.now c.in-Some.superclass =
-    ap (λ (ps : List (Option ℕ)). get_or ps c.in-Some.superclass None) c.requires.superclasses ∙ superclass-at c.args.heads.now c.in-Some.superclass None inside in
-    subst (λ (o : Option ℕ). height c.args.above.now (get_or c.args.superclasses.now c.in-Some.superclass None) < height c.args.above.now o) (sym c.in-Some.is)
-    (height-falls c.args.heads.now c.args.above.now c.requires.above c.requires.acyclic c.in-Some.superclass (get_or c.args.superclasses.now c.in-Some.superclass None) up)
+pub hides_at-requires-clause-other_inside : goal.hides_at-requires-clause-other_inside
+hides_at-requires-clause-other_inside c =
+    let lt : c.loop-other.other-index < length c.noted-listed.result.now = omega arith in
+    let inside : get_or c.noted-listed.result.now c.loop-other.other-index 0 < length c.args.tables.now.classes =
+    noted-inside c.args.tables.now.classes Method c.args.tables.now.method_classes c.args.method.now.name c.noted-listed.result.now c.loop-other.other-index c.requires.indexed.methods c.noted-listed.ensures lt in
+    inside
 
-pub loop-at-preserved : goal.loop-at-preserved
-loop-at-preserved c =
-    let inside : c.in-Some.superclass < length c.args.heads.now = looks-inside c.args.heads.now c.args.class c.index-heads-class.result c.args.method.now c.loop-at.at c.in-Some.superclass c.in-Some.is c.loop-at.invariant in
-    let up : get_or c.args.superclasses.now c.in-Some.superclass None ≡ superclass_of c.args.heads.now c.in-Some.superclass =
-    ap (λ (ps : List (Option ℕ)). get_or ps c.in-Some.superclass None) c.requires.superclasses ∙ superclass-at c.args.heads.now c.in-Some.superclass None inside in
-    let above : slice_get c.args.heads.now c.in-Some.superclass ≡ Some c.index-heads-superclass.result = slice_get_read c.args.heads.now (length c.args.heads.now) c.in-Some.superclass c.index-heads-superclass.result refl inside c.index-heads-superclass.is in
-    looks-on c.args.heads.now c.args.class c.index-heads-class.result c.args.method.now c.loop-at.at (get_or c.args.superclasses.now c.in-Some.superclass None) c.in-Some.superclass c.index-heads-superclass.result c.in-Some.is above
-    (λ hides. let t : c.hides.result ≡ true = c.hides.ensures.1 hides in cc (t, c.if-hides.false)) up c.loop-at.invariant
+pub returns-then-hides_at : goal.returns-then-hides_at
+returns-then-hides_at c = (
+  λ t. crosses-from c.args.tables.now.classes c.args.class c.args.head.now c.args.method.now (get_or c.noted-listed.result.now c.loop-other.other-index 0)
+      (sym c.is_virtual.ensures ∙ c.if-not-is_virtual.false) (c.hides_at.ensures.0 c.if-hides_at.true),
+  λ crosses. refl,
+)
 
-pub loop-at-init : goal.loop-at-init
-loop-at-init c =
-    looks-begin c.args.heads.now c.args.class c.index-heads-class.result c.args.method.now (get_or c.args.superclasses.now c.args.class None)
-    (ap (λ (ps : List (Option ℕ)). get_or ps c.args.class None) c.requires.superclasses ∙ superclass-at c.args.heads.now c.args.class None c.requires.inside)
+pub loop-other-preserved : goal.loop-other-preserved
+loop-other-preserved c =
+    below_more (λ (i : ℕ). HidesAt c.args.tables.now.classes c.args.class c.args.head.now c.args.method.now (get_or c.noted-listed.result.now i 0) → ⊥) c.loop-other.other-index c.loop-other.invariant
+    (λ at. let t : c.hides_at.result ≡ true = c.hides_at.ensures.1 at in cc (t, c.if-hides_at.false))
 
 pub returns : goal.returns
-returns c = λ head found.
-    let own : slice_get c.args.heads.now c.args.class ≡ Some c.index-heads-class.result = slice_get_read c.args.heads.now (length c.args.heads.now) c.args.class c.index-heads-class.result refl c.requires.inside c.index-heads-class.is in
-    let eq : Some head ≡ Some c.index-heads-class.result = sym found ∙ own in
-    let same : head ≡ c.index-heads-class.result = cc eq in (
-      λ t. absurd (cc t),
-      λ crosses. absurd (looks-ended c.args.heads.now c.args.class c.index-heads-class.result c.args.method.now c.loop-at.at c.in_default.is c.loop-at.invariant
-          (subst (λ (h : ClassHead). Crosses c.args.heads.now c.args.class h c.args.method.now) same crosses)),
-    )
+returns c = (
+  λ t. absurd (cc t),
+  λ crosses.
+      let there : (d : ℕ) × Contains (classes_at c.args.tables.now.method_classes c.args.method.now.name) d × HidesAt c.args.tables.now.classes c.args.class c.args.head.now c.args.method.now d =
+      crosses-noted c.args.tables.now.classes c.args.class c.args.head.now c.args.method.now c.args.tables.now.method_classes c.requires.indexed.methods crosses in
+      absurd (at-item (λ (d : ℕ). HidesAt c.args.tables.now.classes c.args.class c.args.head.now c.args.method.now d → ⊥) c.noted-listed.result.now (λ j lt. c.loop-other.invariant j (omega arith)) there.0
+      (subst (λ (xs : List ℕ). Contains xs there.0) (sym c.noted-listed.ensures) there.1) there.2),
+)
+
+pub returns-then-is_constructor : goal.returns-then-is_constructor
+returns-then-is_constructor c = (λ t. absurd (cc t), λ crosses. absurd (crosses.hides.no_constructor (c.is_constructor.ensures.0 c.if-is_constructor.true)))

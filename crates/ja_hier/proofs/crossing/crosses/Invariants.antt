@@ -1,9 +1,6 @@
-use Rattle.ja_hier.proofs.Climbs.{Looks}
-use Rattle.ja_hier.proofs.Up.{height}
+use Rattle.std.proofs.Common.{ℕ, ◌<◌, get_or}
+use Rattle.ja_hier.specs.Index.{HidesAt}
 use Rattle.ja_hier.proofs.crossing.crosses.Given as goal
 
-abbrev pub invariant-loop-at : goal.invariant-loop-at
-invariant-loop-at l = Looks l.heads l.class l.head l.method l.at
-
-abbrev pub decreases-loop-at : goal.decreases-loop-at
-decreases-loop-at l = height l.above l.at
+abbrev pub invariant-loop-other : goal.invariant-loop-other
+invariant-loop-other l = (j : ℕ) → j < l.other-index → HidesAt l.tables.classes l.class l.head l.method (get_or l.listed j 0) → ⊥

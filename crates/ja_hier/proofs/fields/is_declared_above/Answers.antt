@@ -1,60 +1,44 @@
-use Rattle.std.proofs.Common.{◌≡◌, ℕ, ◌<◌, length, get_or, true, refl, sym, ap, ◌∙◌, arith, inl, inr, below_more}
-use Rattle.std.specs.Prelude.{Some, slice_get}
-use Rattle.ja_hier.specs.LookUps.{field_in}
-use Rattle.ja_hier.specs.Supertypes.{IsSupertype}
-use Rattle.ja_hier.proofs.FieldWays.{none-above}
-use Rattle.ja_hier.proofs.Places.{list-read, super-inside}
-use Rattle.std.proofs.lemmas.List.Elements.{Contains-get_or}
+use Rattle.std.proofs.Common.{◌≡◌, ℕ, ◌<◌, List, length, get_or, true, refl, sym, ap, ◌∙◌, subst, arith, below_more}
+use Rattle.std.specs.Prelude.{Contains}
+use Rattle.ja_hier.specs.declared.starts.Member.TheVariants.{Field}
+use Rattle.ja_hier.specs.Index.{DeclaresFor, classes_at}
+use Rattle.ja_hier.proofs.FieldWays.{above-noted}
+use Rattle.ja_hier.proofs.Indexed.{at-item, noted-inside}
 use Rattle.ja_hier.proofs.fields.is_declared_above.Goals as goal
 
-pub loop-above-init : goal.loop-above-init
-loop-above-init c = λ j k lt. absurd (omega arith)
+pub loop-other-init : goal.loop-other-init
+loop-other-init c = λ j lt. absurd (omega arith)
 
-pub overflow_cast-above : goal.overflow_cast-above
-overflow_cast-above c =
-    let lt : c.loop-above.above-index < length c.as_slice-supers.result.now = omega arith in
-    let read : slice_get c.args.tables.now.supers c.args.class ≡ Some c.as_slice-supers.result.now = c.at.ensures ∙ ap Some (sym c.as_slice-supers.ensures) in
-    omega (arith, super-inside c.args.tables.now.heads c.args.tables.now.supers c.args.class c.as_slice-supers.result.now c.loop-above.above-index c.requires.indexed.supers read c.requires.inside lt, c.requires.indexed.numbered.classes)
+pub overflow_cast-other : goal.overflow_cast-other
+overflow_cast-other c =
+    let lt : c.loop-other.other-index < length c.noted-listed.result.now = omega arith in
+    let inside : get_or c.noted-listed.result.now c.loop-other.other-index 0 < length c.args.tables.now.classes =
+    noted-inside c.args.tables.now.classes Field c.args.tables.now.field_classes c.args.name.now c.noted-listed.result.now c.loop-other.other-index c.requires.indexed.fields c.noted-listed.ensures lt in
+    omega (arith, inside, c.requires.indexed.numbered.classes)
 
-pub declares-requires-in-loop-above-clause-inside : goal.declares-requires-in-loop-above-clause-inside
-declares-requires-in-loop-above-clause-inside c =
-    let lt : c.loop-above.above-index < length c.as_slice-supers.result.now = omega arith in
-    let read : slice_get c.args.tables.now.supers c.args.class ≡ Some c.as_slice-supers.result.now = c.at.ensures ∙ ap Some (sym c.as_slice-supers.ensures) in
-    super-inside c.args.tables.now.heads c.args.tables.now.supers c.args.class c.as_slice-supers.result.now c.loop-above.above-index c.requires.indexed.supers read c.requires.inside lt
+pub declares_for-requires-clause-other_inside : goal.declares_for-requires-clause-other_inside
+declares_for-requires-clause-other_inside c =
+    let lt : c.loop-other.other-index < length c.noted-listed.result.now = omega arith in
+    let inside : get_or c.noted-listed.result.now c.loop-other.other-index 0 < length c.args.tables.now.classes =
+    noted-inside c.args.tables.now.classes Field c.args.tables.now.field_classes c.args.name.now c.noted-listed.result.now c.loop-other.other-index c.requires.indexed.fields c.noted-listed.ensures lt in
+    inside
 
-pub returns-then-declares-2 : goal.returns-then-declares-2
-returns-then-declares-2 c =
-    let lt : c.loop-above.above-index < length c.as_slice-supers.result.now = omega arith in
-    let read : slice_get c.args.tables.now.supers c.args.class ≡ Some c.as_slice-supers.result.now = c.at.ensures ∙ ap Some (sym c.as_slice-supers.ensures) in
-    let place : (k : ℕ) × (field_in c.args.tables.now.heads c.args.name.now c.args.desc.now (get_or c.as_slice-supers.result.now c.loop-above.above-index 0) ≡ Some k) = c.declares-in-loop-above.ensures.0 c.if-declares-2.true in (
-      λ t. (
-        get_or c.as_slice-supers.result.now c.loop-above.above-index 0,
-        place.0,
-        inr ((list-read c.args.tables.now.heads (IsSupertype c.args.tables.now.heads) c.args.tables.now.supers c.args.class c.as_slice-supers.result.now c.requires.indexed.supers read c.requires.inside _).0
-            (Contains-get_or c.as_slice-supers.result.now c.loop-above.above-index 0 lt)),
-        place.1,
-      ),
-      λ above. refl,
-    )
+pub returns-then-declares_for : goal.returns-then-declares_for
+returns-then-declares_for c =
+    let for : DeclaresFor c.args.tables.now.classes c.args.name.now c.args.desc.now c.args.class (get_or c.noted-listed.result.now c.loop-other.other-index 0) = c.declares_for.ensures.0 c.if-declares_for.true in
+    (λ t. (get_or c.noted-listed.result.now c.loop-other.other-index 0, for.declared.0, for.above, for.declared.1), λ above. refl)
 
-pub loop-above-preserved : goal.loop-above-preserved
-loop-above-preserved c = λ j k.
-    below_more (λ (i : ℕ). field_in c.args.tables.now.heads c.args.name.now c.args.desc.now (get_or c.as_slice-supers.result.now i 0) ≡ Some k → ⊥) c.loop-above.above-index
-    (λ i lt. c.loop-above.invariant i k lt)
-    (λ e. let t : c.declares-in-loop-above.result ≡ true = c.declares-in-loop-above.ensures.1 (k, e) in cc (t, c.if-declares-2.false)) j
+pub loop-other-preserved : goal.loop-other-preserved
+loop-other-preserved c =
+    below_more (λ (i : ℕ). DeclaresFor c.args.tables.now.classes c.args.name.now c.args.desc.now c.args.class (get_or c.noted-listed.result.now i 0) → ⊥) c.loop-other.other-index c.loop-other.invariant
+    (λ for. let t : c.declares_for.result ≡ true = c.declares_for.ensures.1 for in cc (t, c.if-declares_for.false))
 
 pub returns : goal.returns
-returns c =
-    let read : slice_get c.args.tables.now.supers c.args.class ≡ Some c.as_slice-supers.result.now = c.at.ensures ∙ ap Some (sym c.as_slice-supers.ensures) in (
-      λ t. absurd (cc t),
-      λ above. absurd (none-above c.args.tables.now.heads c.args.name.now c.args.desc.now c.args.class c.as_slice-supers.result.now
-          (list-read c.args.tables.now.heads (IsSupertype c.args.tables.now.heads) c.args.tables.now.supers c.args.class c.as_slice-supers.result.now c.requires.indexed.supers read c.requires.inside)
-          (λ k e. let t : c.declares.result ≡ true = c.declares.ensures.1 (k, e) in cc (t, c.if-declares.false))
-          (λ j k lt. c.loop-above.invariant j k (omega arith))
-          above),
-    )
-
-pub returns-then-declares : goal.returns-then-declares
-returns-then-declares c =
-    let place : (k : ℕ) × (field_in c.args.tables.now.heads c.args.name.now c.args.desc.now c.args.class ≡ Some k) = c.declares.ensures.0 c.if-declares.true in
-    (λ t. (c.args.class, place.0, inl refl, place.1), λ above. refl)
+returns c = (
+  λ t. absurd (cc t),
+  λ above.
+      let there : (e : ℕ) × Contains (classes_at c.args.tables.now.field_classes c.args.name.now) e × DeclaresFor c.args.tables.now.classes c.args.name.now c.args.desc.now c.args.class e =
+      above-noted c.args.tables.now.classes c.args.tables.now.field_classes c.args.name.now c.args.desc.now c.args.class c.requires.indexed.fields above in
+      absurd (at-item (λ (e : ℕ). DeclaresFor c.args.tables.now.classes c.args.name.now c.args.desc.now c.args.class e → ⊥) c.noted-listed.result.now (λ j lt. c.loop-other.invariant j (omega arith)) there.0
+      (subst (λ (xs : List ℕ). Contains xs there.0) (sym c.noted-listed.ensures) there.1) there.2),
+)

@@ -3,4 +3,4 @@ use Rattle.ja_hier.specs.LookUps.{IsDeclaredAbove}
 use Rattle.ja_hier.proofs.fields.next_above.Given as goal
 
 abbrev pub invariant-loop-next : goal.invariant-loop-next
-invariant-loop-next l = (j : ℕ) → j < l.next-index → IsDeclaredAbove l.tables.heads l.name l.desc (get_or l.supertypes j 0) → ⊥
+invariant-loop-next l = (j : ℕ) → j < l.next-index → IsDeclaredAbove l.tables.classes l.name l.desc (get_or l.supertypes j 0) → ⊥

@@ -3,4 +3,4 @@ use Rattle.ja_hier.specs.Index.{IsSomeLeft}
 use Rattle.ja_hier.proofs.methods.is_alone.Given as goal
 
 abbrev pub invariant-loop-other : goal.invariant-loop-other
-invariant-loop-other l = (j : ℕ) → j < l.other-index → IsSomeLeft l.tables.heads l.name l.desc l.class (get_or l.faces j 0) → get_or l.faces j 0 ≡ l.face
+invariant-loop-other l = (j : ℕ) → j < l.other-index → IsSomeLeft l.tables.classes l.name l.desc l.class (get_or l.listed j 0) → get_or l.listed j 0 ≡ l.interface

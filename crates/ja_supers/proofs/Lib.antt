@@ -1,0 +1,14 @@
+pub mod Ways
+pub mod Seen
+pub mod Falls
+pub mod Ranks
+pub mod Up
+pub mod Climbs
+pub mod Places
+pub mod ForeignWays
+pub mod ListSteps
+pub mod FirstPlaces
+pub mod Nearest
+pub mod TypeWays
+pub mod OneAnswer
+pub mod Read
