@@ -1,5 +1,5 @@
 -- Each instruction has at most one effect.
-use Rattle.std.proofs.Common.{◌≡◌, ℕ, ◌≤◌, Bool, true, false, IsTrue, List, [], ◌∷◌, length, map, get_or, Option, Some, None, Result, Ok, Err, IfOk, refl, ap, sym, subst, ◌∙◌, arith}
+use Rattle.std.proofs.Common.{◌≡◌, ℕ, ◌≤◌, Bool, false, IsTrue, List, length, map, Option, Some, None, Result, Ok, Err, IfOk, refl, ap, sym, subst, ◌∙◌}
 use Rattle.std.specs.Prelude.{option_map}
 use Rattle.std.proofs.lemmas.List.{get_or_past, length-map}
 use Rattle.ja_base.specs.declared.java_type.Kind.{Kind}
@@ -12,7 +12,6 @@ use Rattle.ja_code.specs.declared.instr.RawInstr.{RawInstr}
 use Rattle.ja_kinds.specs.declared.behaviour.Behaviour.{Behaviour}
 use Rattle.ja_kinds.specs.declared.behaviour.Behaviour.TheVariants.{Loaded, GetStatic, PutStatic, GetField, PutField, Invoke, InvokeStatic}
 use Rattle.ja_kinds.specs.declared.effect.Effect.{Effect}
-use Rattle.ja_kinds.specs.declared.reading.Part.{Part}
 use Rattle.ja_kinds.specs.declared.reading.Part.TheVariants.{Nothing, Constant, Field, Method}
 use Rattle.ja_kinds.specs.Effect.{constant_kind, operand_at, kind_of_type, NamesField, NamesMethod, fixed_effect, loaded_effect, field_effect, method_effect, HasEffect, fixed, loaded, field, method}
 use Rattle.ja_kinds.specs.Reading.{part_of, FindsField, FindsMethod, Finds}
@@ -21,6 +20,11 @@ use Rattle.ja_kinds.specs.Reading.{part_of, FindsField, FindsMethod, Finds}
 pub ok_is : {A E : Type 0} (P : A → Type 0) (x : A) (r : Result A E) → IfOk r (λ found. found ≡ x) → P x → IfOk r P
 ok_is P x (Ok found) e p = subst P (sym e) p
 ok_is P x (Err error) e p = tt
+
+-- what follows from what an answer is
+pub if_ok : {A E : Type 0} (P Q : A → Type 0) (r : Result A E) → ((x : A) → P x → Q x) → IfOk r P → IfOk r Q
+if_ok P Q (Ok found) f p = f found p
+if_ok P Q (Err error) f p = tt
 
 -- no member stands past the end of a pool
 pub no_member : (pool : Table) (n : ℕ) → length pool ≤ n → is_member_tag (tag_at pool n) ≡ false

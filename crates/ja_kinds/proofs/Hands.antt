@@ -1,8 +1,8 @@
 -- A state is handed to places.
-use Rattle.std.proofs.Common.{◌≡◌, ℕ, zero, suc, ◌+◌, ◌<◌, ◌≤◌, ◌⊎◌, inl, inr, Bool, true, false, ◌||◌, List, [], ◌∷◌, ◌++◌, length, get_or, take, set, refl, ap, sym, subst, ◌∙◌, arith, if◌then◌else◌}
+use Rattle.std.proofs.Common.{◌≡◌, ℕ, zero, suc, ◌+◌, ◌<◌, ◌≤◌, ◌⊎◌, inl, inr, Bool, true, false, ◌||◌, ◌&&◌, leb, ltb, List, [], ◌∷◌, ◌++◌, length, get_or, take, set, refl, ap, sym, subst, ◌∙◌, arith, if◌then◌else◌}
+use Rattle.std.proofs.lemmas.Bool.{and_from, le-leb, lt-ltb}
 use Rattle.std.proofs.lemmas.List.{length-set, take_more}
 use Rattle.ja_kinds.specs.declared.state.State.{State}
-use Rattle.ja_kinds.specs.declared.state.State.TheVariants.{Unreached}
 use Rattle.ja_kinds.specs.Frame.{Below}
 use Rattle.ja_code.specs.declared.instr.RawInstr.{RawInstr}
 use Rattle.ja_code.specs.declared.handler.RawHandler.{RawHandler}
@@ -10,7 +10,7 @@ use Rattle.ja_kinds.specs.declared.behaviour.Behaviour.{Behaviour}
 use Rattle.ja_kinds.specs.Effect.{IsOneOf, branches, targets_of}
 use Rattle.ja_kinds.specs.Solution.{HandledAt}
 use Rattle.ja_kinds.specs.Merge.{is_below, merge}
-use Rattle.ja_kinds.specs.Solving.{state_at, IsWide, AreWide, room_of, room, Within, Catches, Rises, Hands}
+use Rattle.ja_kinds.specs.Solving.{state_at, IsWide, AreWide, room_of, room, Catches, Rises, is_marked, Marks, Hands}
 use Rattle.ja_kinds.proofs.Order.{is_below_is, below_self, below_trans, merge_left, merge_right, merge_least, merge_wide, merge_falls}
 
 -- ---- one state is changed
@@ -74,31 +74,70 @@ rises_both count a b d c e p q =
       falls = falls_both count a b d c e p q;
     }
 
+-- ---- marks
+
+pub marks_none : (ss : List State) (ms : List Bool) → Marks ss ss ms ms
+marks_none ss ms = record { same_length = refl; kept = λ p e. e; unmarked = λ p e. refl }
+
+pub marks_both : (a b d : List State) (l m n : List Bool) → Marks a b l m → Marks b d m n → Marks a d l n
+marks_both a b d l m n p q =
+    record {
+      same_length = q.same_length ∙ p.same_length;
+      kept = λ k e. p.kept k (q.kept k e);
+      unmarked = λ k e. q.unmarked k e ∙ p.unmarked k (q.kept k e);
+    }
+
+kept_set : (ms : List Bool) (p q : ℕ) → is_marked (set ms p true) q ≡ false → is_marked ms q ≡ false
+kept_set [] p q e = e
+kept_set (m ∷ ms) zero zero e = absurd cc
+kept_set (m ∷ ms) zero (suc q) e = e
+kept_set (m ∷ ms) (suc p) zero e = e
+kept_set (m ∷ ms) (suc p) (suc q) e = kept_set ms p q e
+
+unmarked_set : (ss : List State) (ms : List Bool) (p q : ℕ) (x : State) → length ms ≡ length ss → is_marked (set ms p true) q ≡ false
+    → state_at (set ss p x) q ≡ state_at ss q
+unmarked_set [] ms p q x l e = refl
+unmarked_set (s ∷ ss) [] p q x l e = absurd (omega arith)
+unmarked_set (s ∷ ss) (m ∷ ms) zero zero x l e = absurd cc
+unmarked_set (s ∷ ss) (m ∷ ms) zero (suc q) x l e = refl
+unmarked_set (s ∷ ss) (m ∷ ms) (suc p) zero x l e = refl
+unmarked_set (s ∷ ss) (m ∷ ms) (suc p) (suc q) x l e = unmarked_set ss ms p q x (omega arith) e
+
+marks_set : (ss : List State) (ms : List Bool) (p : ℕ) (x : State) → length ms ≡ length ss → Marks ss (set ss p x) ms (set ms p true)
+marks_set ss ms p x l =
+    record {
+      same_length = length-set ms p true;
+      kept = λ q e. kept_set ms p q e;
+      unmarked = λ q e. unmarked_set ss ms p q x l e;
+    }
+
 -- ---- handing
 
-module _ (count : ℕ) (old : List State) (s : State) (place : ℕ) (wide : AreWide count old) where
+module _ (count : ℕ) (old : List State) (marks : List Bool) (s : State) (place : ℕ) (wide : AreWide count old) where
   -- no place of the code
-  pub hands_beyond : length old ≤ place → Hands count (λ p. p ≡ place) s old old false
+  pub hands_beyond : length old ≤ place → Hands count (λ p. p ≡ place) s old old marks marks false
   hands_beyond past =
       record {
         rises = rises_not count old wide;
+        marks = marks_none old marks;
         there = λ p e below. absurd (omega (arith, e, below, past));
         within = λ bound w h. w;
       }
 
   -- what is there already
-  pub hands_nothing : is_below s (state_at old place) ≡ true → Hands count (λ p. p ≡ place) s old old false
+  pub hands_nothing : is_below s (state_at old place) ≡ true → Hands count (λ p. p ≡ place) s old old marks marks false
   hands_nothing there =
       record {
         rises = rises_not count old wide;
+        marks = marks_none old marks;
         there = λ p e below. subst (λ (n : ℕ). Below s (state_at old n)) (sym e) (is_below_is s (state_at old place) there);
         within = λ bound w h. w;
       }
 
   -- what is merged with what is there
-  pub hands_merged : IsWide count s → place < length old → is_below s (state_at old place) ≡ false
-      → Hands count (λ p. p ≡ place) s old (set old place (merge (state_at old place) s)) true
-  hands_merged w below above =
+  pub hands_merged : IsWide count s → length marks ≡ length old → place < length old → is_below s (state_at old place) ≡ false
+      → Hands count (λ p. p ≡ place) s old (set old place (merge (state_at old place) s)) marks (set marks place true) true
+  hands_merged w even below above =
       let t : State = state_at old place in
       let here : IsWide count t = wide_at count old place wide in
       record {
@@ -110,6 +149,7 @@ module _ (count : ℕ) (old : List State) (s : State) (place : ℕ) (wide : AreW
           same = λ e. absurd cc;
           falls = λ e. room_set count old place (merge t s) below (merge_falls count t s above here w);
         };
+        marks = marks_set old marks place (merge t s) even;
         there = λ p e inside. subst (λ (n : ℕ). Below s (state_at (set old place (merge t s)) n)) (sym e)
             (set_there (λ (u : State). Below s u) old place (merge t s) below (merge_right t s));
         within = λ bound inner h. λ q. at_set (λ (u : State). Below u (bound q)) old place q (merge t s)
@@ -119,11 +159,13 @@ module _ (count : ℕ) (old : List State) (s : State) (place : ℕ) (wide : AreW
       }
 
 -- one after the other
-pub hands_both : (count : ℕ) (P Q W : ℕ → Type 0) (s : State) (a b d : List State) (c e : Bool) → Hands count P s a b c → Hands count Q s b d e
-    → ((n : ℕ) → W n → P n ⊎ Q n) → ((n : ℕ) → P n → W n) → ((n : ℕ) → Q n → W n) → Hands count W s a d (c || e)
-hands_both count P Q W s a b d c e p q split left right =
+pub hands_both : (count : ℕ) (P Q W : ℕ → Type 0) (s : State) (a b d : List State) (k l m : List Bool) (c e : Bool)
+    → Hands count P s a b k l c → Hands count Q s b d l m e
+    → ((n : ℕ) → W n → P n ⊎ Q n) → ((n : ℕ) → P n → W n) → ((n : ℕ) → Q n → W n) → Hands count W s a d k m (c || e)
+hands_both count P Q W s a b d k l m c e p q split left right =
     record {
       rises = rises_both count a b d c e p.rises q.rises;
+      marks = marks_both a b d k l m p.marks q.marks;
       there = λ n goes below. elim (split n goes) [
         | inl h ↦ below_trans s (state_at b n) (state_at d n) (p.there n h below) (q.rises.up n)
         | inr h ↦ q.there n h (subst (λ (m : ℕ). n < m) (sym p.rises.same_length) below)
@@ -163,18 +205,20 @@ module _ {A : Type 0} (xs : List A) (i : ℕ) (x : A) (below : i < length xs) (i
   one_of_now a e = subst (λ (b : A). IsOneOf b (take (i + 1) xs)) (sym e) (subst (IsOneOf x) (sym more) (one_of_end (take i xs) x))
 
 -- the state is handed to one more place of a list
-pub hands_more : (count : ℕ) (s : State) (a b d : List State) (c e : Bool) (places : List ℕ) (i place : ℕ) → i < length places → get_or places i place ≡ place
-    → Hands count (λ (p : ℕ). IsOneOf p (take i places)) s a b c → Hands count (λ (p : ℕ). p ≡ place) s b d e
-    → Hands count (λ (p : ℕ). IsOneOf p (take (i + 1) places)) s a d (c || e)
-hands_more count s a b d c e places i place below is p q =
-    hands_both count (λ (n : ℕ). IsOneOf n (take i places)) (λ (n : ℕ). n ≡ place) (λ (n : ℕ). IsOneOf n (take (i + 1) places)) s a b d c e p q
+pub hands_more : (count : ℕ) (s : State) (a b d : List State) (k l m : List Bool) (c e : Bool) (places : List ℕ) (i place : ℕ) → i < length places → get_or places i place ≡ place
+    → Hands count (λ (p : ℕ). IsOneOf p (take i places)) s a b k l c → Hands count (λ (p : ℕ). p ≡ place) s b d l m e
+    → Hands count (λ (p : ℕ). IsOneOf p (take (i + 1) places)) s a d k m (c || e)
+hands_more count s a b d k l m c e places i place below is p q =
+    hands_both count (λ (n : ℕ). IsOneOf n (take i places)) (λ (n : ℕ). n ≡ place) (λ (n : ℕ). IsOneOf n (take (i + 1) places)) s a b d k l m c e p q
     (one_of_more places i place below is) (one_of_before places i place below is) (one_of_now places i place below is)
 
 -- no place
-pub hands_none : (count : ℕ) (P : ℕ → Type 0) (s : State) (old : List State) → AreWide count old → ((n : ℕ) → P n → ⊥) → Hands count P s old old false
-hands_none count P s old wide none =
+pub hands_none : (count : ℕ) (P : ℕ → Type 0) (s : State) (old : List State) (marks : List Bool) → AreWide count old → ((n : ℕ) → P n → ⊥)
+    → Hands count P s old old marks marks false
+hands_none count P s old marks wide none =
     record {
       rises = rises_not count old wide;
+      marks = marks_none old marks;
       there = λ n goes below. absurd (none n goes);
       within = λ bound w h. w;
     }
@@ -184,14 +228,27 @@ pub no_targets : (b : Behaviour) (i : RawInstr) → branches b ≡ false → (n 
 no_targets b i e n h = subst (λ (t : Bool). IsOneOf n (if t then i.operands else []) → ⊥) (sym e) (λ (k : ⊥). k) h
 
 -- the state is handed to the handler of one more entry
-pub hands_row : (count : ℕ) (s : State) (a b d : List State) (c e : Bool) (rows : List RawHandler) (i pc : ℕ) (row : RawHandler) → i < length rows → get_or rows i row ≡ row
-    → Hands count (λ (p : ℕ). HandledAt (take i rows) pc p) s a b c → Hands count (λ (p : ℕ). Catches row pc p) s b d e
-    → Hands count (λ (p : ℕ). HandledAt (take (i + 1) rows) pc p) s a d (c || e)
-hands_row count s a b d c e rows i pc row below is p q =
-    hands_both count (λ (n : ℕ). HandledAt (take i rows) pc n) (λ (n : ℕ). Catches row pc n) (λ (n : ℕ). HandledAt (take (i + 1) rows) pc n) s a b d c e p q
+pub hands_row : (count : ℕ) (s : State) (a b d : List State) (k l m : List Bool) (c e : Bool) (rows : List RawHandler) (i pc : ℕ) (row : RawHandler) → i < length rows → get_or rows i row ≡ row
+    → Hands count (λ (p : ℕ). HandledAt (take i rows) pc p) s a b k l c → Hands count (λ (p : ℕ). Catches row pc p) s b d l m e
+    → Hands count (λ (p : ℕ). HandledAt (take (i + 1) rows) pc p) s a d k m (c || e)
+hands_row count s a b d k l m c e rows i pc row below is p q =
+    hands_both count (λ (n : ℕ). HandledAt (take i rows) pc n) (λ (n : ℕ). Catches row pc n) (λ (n : ℕ). HandledAt (take (i + 1) rows) pc n) s a b d k l m c e p q
     (λ n h. elim (one_of_more rows i row below is h.row h.there) [
       | inl there ↦ inl (record { row = h.row; there = there; from = h.from; before = h.before; place_is = h.place_is })
       | inr same ↦ inr (subst (λ (r : RawHandler). Catches r pc n) same (record { from = h.from; before = h.before; place_is = h.place_is }))
     ])
     (λ n h. record { row = h.row; there = one_of_before rows i row below is h.row h.there; from = h.from; before = h.before; place_is = h.place_is })
     (λ n h. record { row = row; there = one_of_now rows i row below is row refl; from = h.from; before = h.before; place_is = h.place_is })
+
+-- no entry before one more has the pc
+pub uncovered_more : (rows : List RawHandler) (i pc : ℕ) (row : RawHandler) → i < length rows → get_or rows i row ≡ row
+    → ((place : ℕ) → HandledAt (take i rows) pc place → ⊥) → (leb row.start pc && ltb pc row.end) ≡ false
+    → (place : ℕ) → HandledAt (take (i + 1) rows) pc place → ⊥
+uncovered_more rows i pc row below is before not_now place h = elim (one_of_more rows i row below is h.row h.there) [
+  | inl there ↦ before place (record { row = h.row; there = there; from = h.from; before = h.before; place_is = h.place_is })
+  | inr same ↦
+      let low : leb row.start pc ≡ true = ap (λ (r : RawHandler). leb r.start pc) (sym same) ∙ le-leb h.row.start pc h.from in
+      let high : ltb pc row.end ≡ true = ap (λ (r : RawHandler). ltb pc r.end) (sym same) ∙ lt-ltb pc h.row.end h.before in
+      let both : (leb row.start pc && ltb pc row.end) ≡ true = and_from (leb row.start pc) (ltb pc row.end) low high in
+      absurd cc
+]

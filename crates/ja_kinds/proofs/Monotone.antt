@@ -1,5 +1,5 @@
 -- What an instruction hands on is below, where what is known before is.
-use Rattle.std.proofs.Common.{◌≡◌, ℕ, zero, suc, ◌+◌, ◌-◌, ◌≤◌, ◌⊎◌, inl, inr, Bool, true, false, ◌&&◌, not, leb, List, [], ◌∷◌, ◌++◌, length, get_or, set, Option, Some, None, refl, ap, sym, subst, ◌∙◌, arith, if◌then◌else◌}
+use Rattle.std.proofs.Common.{◌≡◌, ℕ, zero, suc, ◌+◌, ◌-◌, inl, inr, Bool, true, false, ◌&&◌, not, leb, List, [], ◌∷◌, ◌++◌, length, set, Option, Some, None, refl, ap, sym, subst, ◌∙◌, if◌then◌else◌}
 use Rattle.std.specs.Prelude.{◌==◌}
 use Rattle.std.proofs.lemmas.Bool.{and_parts, and_from}
 use Rattle.std.proofs.lemmas.List.{length-set}
@@ -16,7 +16,7 @@ use Rattle.ja_kinds.specs.Frame.{same_kind, IsBelow, AreBelow, Below, local_at, 
 use Rattle.ja_kinds.specs.Effect.{kinds_in, holds, exchanged, rearranged, with_stack, may_return, turned, is_wrong_depth}
 use Rattle.ja_kinds.specs.Solution.{accepted, handed, after, thrown_with, thrown}
 use Rattle.ja_kinds.specs.Solving.{IsWide}
-use Rattle.ja_kinds.proofs.Order.{same_kind_is, same_kind_self, to_clash, below_length, pick}
+use Rattle.ja_kinds.proofs.Order.{to_clash, below_length, pick}
 
 -- ---- locals
 

@@ -1,9 +1,8 @@
 -- What each opcode does with locals and stack (JVM specification, 6.5).
-use Rattle.std.specs.Prelude.{ℕ, ◌-◌, ◌%◌, ◌==◌, ◌||◌, Bool, true, false, List, [], ◌∷◌, Option, Some, None, nat_le, if◌then◌else◌}
+use Rattle.std.specs.Prelude.{ℕ, ◌-◌, ◌%◌, ◌==◌, ◌||◌, Bool, false, List, [], ◌∷◌, Option, Some, None, nat_le, if◌then◌else◌}
 use Rattle.ja_base.specs.declared.java_type.Kind.{Kind}
-use Rattle.ja_base.specs.declared.java_type.Kind.TheVariants.{P1, P2, R, T}
+use Rattle.ja_base.specs.declared.java_type.Kind.TheVariants.{P1, P2, R}
 use Rattle.ja_kinds.specs.declared.behaviour.Source.TheVariants.{Operand, Fixed}
-use Rattle.ja_kinds.specs.declared.behaviour.Operands.{Operands}
 use Rattle.ja_kinds.specs.declared.behaviour.Operands.TheVariants.{One, Two}
 use Rattle.ja_kinds.specs.declared.behaviour.Rearrangement.TheVariants.{Pop, Pop2, Dup, DupX1, DupX2, Dup2, Dup2X1, Dup2X2, Swap}
 use Rattle.ja_kinds.specs.declared.behaviour.Behaviour.{Behaviour}

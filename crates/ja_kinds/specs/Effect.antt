@@ -1,9 +1,9 @@
 -- What an instruction does to a frame, and where it may lead (JVM specification 4.10.1.9, 6.5).
-use Rattle.std.specs.Prelude.{◌≡◌, ℕ, ◌+◌, ◌-◌, ◌*◌, ◌<◌, ◌≤◌, ◌⊎◌, Bool, true, false, IsTrue, List, [], ◌∷◌, ◌++◌, length, map, replicate, slice_index, Option, Some, None, is_none, option_map, option_and_then, nat_le, nat_lt, not, ◌==◌, ◌&&◌, ◌||◌, if◌then◌else◌}
+use Rattle.std.specs.Prelude.{◌≡◌, ℕ, ◌+◌, ◌⊎◌, Bool, true, false, IsTrue, List, [], ◌∷◌, ◌++◌, length, map, replicate, slice_index, Option, Some, None, option_map, nat_le, nat_lt, not, ◌==◌, ◌&&◌, ◌||◌, if◌then◌else◌}
 use Rattle.ja_base.specs.Kind.{words_of}
 use Rattle.ja_base.specs.Descriptor.{IsField, IsMethod}
 use Rattle.ja_base.specs.declared.java_type.Kind.{Kind}
-use Rattle.ja_base.specs.declared.java_type.Kind.TheVariants.{P1, P2, R, T}
+use Rattle.ja_base.specs.declared.java_type.Kind.TheVariants.{P1, R, T}
 use Rattle.ja_base.specs.declared.java_type.JavaType.{JavaType}
 use Rattle.ja_pool.specs.Table.{Table, tag_at, member_desc_at, is_member_tag}
 use Rattle.ja_code.specs.declared.instr.RawInstr.{RawInstr}

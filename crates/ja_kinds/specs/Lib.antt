@@ -5,3 +5,6 @@ pub mod Solution
 pub mod Merge
 pub mod Solving
 pub mod Reading
+pub mod Answer
+pub mod Reached
+pub mod Moving

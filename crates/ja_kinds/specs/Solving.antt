@@ -15,7 +15,8 @@ use Rattle.ja_kinds.specs.declared.state.State.{State}
 use Rattle.ja_kinds.specs.declared.state.State.TheVariants.{Unreached, Known, Clash}
 use Rattle.ja_kinds.specs.Frame.{Below}
 use Rattle.ja_kinds.specs.Effect.{IsOneOf, Does}
-use Rattle.ja_kinds.specs.Solution.{IsClosed, fault_at, IsRight, IsFirst}
+use Rattle.ja_kinds.specs.Solution.{entry_state, IsClosed, IsSolution, fault_at, IsRight, IsFirst, AreKinds}
+use Rattle.ja_kinds.specs.Answer.{known_at}
 
 -- the state at a place
 abbrev pub state_at : List State → ℕ → State
@@ -69,23 +70,70 @@ pub record Catches (row : RawHandler) (pc place : ℕ) : Type 0 where
   pub before : pc < row.end
   pub place_is : place ≡ row.handler
 
--- a state is handed to some places, and nothing else happens
-pub record Hands (count : ℕ) (Goes : ℕ → Type 0) (handed : State) (old new : List State) (changed : Bool) : Type 0 where
+-- whether a place is marked
+abbrev pub is_marked : List Bool → ℕ → Bool
+is_marked marks place = slice_index_or marks place false
+
+-- marks stay, and what is known changes at marked places alone
+pub record Marks (old new : List State) (before after : List Bool) : Type 0 where
+  pub same_length : length after ≡ length before
+  pub kept : (place : ℕ) → is_marked after place ≡ false → is_marked before place ≡ false
+  pub unmarked : (place : ℕ) → is_marked after place ≡ false → state_at new place ≡ state_at old place
+
+-- a state is handed to some places, those where what is known changes are marked, and nothing else happens
+pub record Hands (count : ℕ) (Goes : ℕ → Type 0) (handed : State) (old new : List State) (before after : List Bool) (changed : Bool) : Type 0 where
   pub rises : Rises count old new changed
+  pub marks : Marks old new before after
   pub there : (place : ℕ) → Goes place → place < length old → Below handed (state_at new place)
   pub within : (bound : ℕ → State) → Within bound old → ((place : ℕ) → Goes place → place < length old → Below handed (bound place))
       → Within bound new
 
--- what some instructions hand on is handed on, and nothing else happens
-pub record Sweeps (pool : Table) (code : Code) (frame : Frame) (is : List RawInstr) (old new : List State) (changed : Bool) : Type 0 where
+-- no two instructions stand at one place
+abbrev pub AreApart : List RawInstr → Type 0
+AreApart is = (i j : RawInstr) → IsOneOf i is → IsOneOf j is → i.pc ≡ j.pc → i ≡ j
+
+-- each instruction of the code that is not marked is closed
+abbrev pub AreClean : Table → Code → Frame → List State → List Bool → Type 0
+AreClean pool code frame states marks =
+    (i : RawInstr) → IsOneOf i code.instrs → is_marked marks i.pc ≡ false → IsClosed pool code frame (state_at states) i
+
+-- what an instruction hands on is handed on, and nothing else happens: the instruction is closed, unless what is known
+-- before it changes
+pub record Spreads (pool : Table) (code : Code) (frame : Frame) (i : RawInstr) (old new : List State) (before after : List Bool) (changed : Bool) : Type 0 where
   pub rises : Rises frame.max_locals old new changed
+  pub marks : Marks old new before after
+  pub closed : state_at new i.pc ≡ state_at old i.pc → IsClosed pool code frame (state_at new) i
+  pub within : (bound : ℕ → State) → IsClosed pool code frame bound i → Within bound old → Within bound new
+
+-- the same where the instruction is marked
+pub record Visits (pool : Table) (code : Code) (frame : Frame) (i : RawInstr) (old new : List State) (before after : List Bool) (changed : Bool) : Type 0 where
+  pub rises : Rises frame.max_locals old new changed
+  pub same_marks : length after ≡ length before
+  pub clean : AreClean pool code frame new after
+  pub closed : changed ≡ false → IsClosed pool code frame (state_at new) i
+  pub within : (bound : ℕ → State) → IsClosed pool code frame bound i → Within bound old → Within bound new
+
+-- the same of instructions one after another
+pub record Sweeps (pool : Table) (code : Code) (frame : Frame) (is : List RawInstr) (old new : List State) (before after : List Bool) (changed : Bool) : Type 0 where
+  pub rises : Rises frame.max_locals old new changed
+  pub same_marks : length after ≡ length before
+  pub clean : AreClean pool code frame new after
   pub closed : changed ≡ false → (i : RawInstr) → IsOneOf i is → IsClosed pool code frame (state_at new) i
-  pub within : (bound : ℕ → State) → ((i : RawInstr) → IsOneOf i is → IsClosed pool code frame bound i) → Within bound old → Within bound new
+  pub within : (bound : ℕ → State) → ((i : RawInstr) → IsOneOf i code.instrs → IsClosed pool code frame bound i) → Within bound old → Within bound new
+
+-- the states are on the way to the least solution
+pub record AreOnTheWay (pool : Table) (code : Code) (frame : Frame) (states : List State) (marks : List Bool) : Type 0 where
+  pub size : length states ≡ frame.size
+  pub marks_size : length marks ≡ length states
+  pub wide : AreWide frame.max_locals states
+  pub clean : AreClean pool code frame states marks
+  pub entry : Below (entry_state frame) (state_at states 0)
+  pub within : (other : ℕ → State) → IsSolution pool code frame other → Within other states
 
 -- the fault of an instruction, or that it has none
-abbrev pub IsFaultOf : Table → Frame → (ℕ → State) → RawInstr → Option KindFault → Type 0
-IsFaultOf pool frame at i None = IsRight pool frame at i
-IsFaultOf pool frame at i (Some fault) =
+abbrev pub IsFaultAt : Table → Frame → (ℕ → State) → RawInstr → Option KindFault → Type 0
+IsFaultAt pool frame at i None = IsRight pool frame at i
+IsFaultAt pool frame at i (Some fault) =
     (behaviour : Behaviour) × (effect : Effect) × Does pool i behaviour effect × (fault_at frame i behaviour effect (at i.pc) ≡ Some fault)
 
 -- the first fault of some instructions, or that they have none
@@ -93,8 +141,8 @@ abbrev pub IsFirstOf : Table → Frame → (ℕ → State) → List RawInstr →
 IsFirstOf pool frame at is None = (i : RawInstr) → IsOneOf i is → IsRight pool frame at i
 IsFirstOf pool frame at is (Some fault) = IsFirst pool frame at is fault
 
--- the locals and the stack, where they are known
-abbrev pub known_of : State → Option KindState
-known_of Unreached = None
-known_of (Known f) = Some f
-known_of Clash = None
+-- these are the kinds of a code
+pub record AreKindsIn (pool : Table) (code : Code) (frame : Frame) (kinds : List (Option KindState)) : Type 0 where
+  pub at : ℕ → State
+  pub are : AreKinds pool code frame at
+  pub kinds_are : kinds ≡ known_at at code.instrs

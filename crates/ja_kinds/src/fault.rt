@@ -1,3 +1,8 @@
+ghost use Rattle.std.specs.Prelude.{◌≡◌};
+ghost use Rattle.ja_kinds.specs.declared.fault.KindFault.TheVariants as faults;
+
+use ja_base::Memory;
+
 /// Why a method has no kinds.
 #[derive(Clone, Copy, PartialEq, Eq, Debug)]
 pub enum KindFault {
@@ -11,4 +16,12 @@ pub enum KindFault {
     FallsOff { pc: u32 },
     /// Want of memory.
     Memory,
+}
+
+impl From<Memory> for KindFault {
+    ghost from_gives = { λ _ fault. fault ≡ faults.Memory };
+
+    fn from(_memory: Memory) -> KindFault {
+        KindFault::Memory
+    }
 }

@@ -97,7 +97,7 @@ pub(crate) fn field_kind(
 }
 
 /// The kinds of types.
-fn kinds_of_types(alloc: Global, types: &JavaTypes) -> Result<KindList, Memory>
+pub(crate) fn kinds_of_types(alloc: Global, types: &JavaTypes) -> Result<KindList, Memory>
     ensures { IfOk result (λ kinds. kinds ≡ map kind_of_type types.now) }
 {
     let mut kinds = KindList::new(alloc);
@@ -108,7 +108,7 @@ fn kinds_of_types(alloc: Global, types: &JavaTypes) -> Result<KindList, Memory>
 }
 
 /// The kind of a type, if there is one.
-fn kind_in(found: &Option<JavaType>) -> Option<Kind>
+pub(crate) fn kind_in(found: &Option<JavaType>) -> Option<Kind>
     ensures { result ≡ option_map kind_of_type found.now }
 {
     match found {

@@ -1,4 +1,5 @@
-ghost use Rattle.std.specs.Prelude.{◌≡◌, ℕ, ◌+◌, ◌∷◌, [], true, length, IfOk};
+ghost use Rattle.std.specs.Prelude.{◌≡◌, ℕ, ◌+◌, ◌∷◌, [], true, false, ◌&&◌, nat_le, nat_lt, length, IfOk};
+ghost use Rattle.ja_base.specs.declared.java_type.Kind.TheVariants.{R};
 ghost use Rattle.ja_kinds.specs.declared.state.State.TheVariants.{Known};
 ghost use Rattle.ja_kinds.specs.Effect.{IsOneOf, LeadsTo, goes_on, branches, targets_of};
 ghost use Rattle.ja_kinds.specs.Solution.{HandledAt, after, thrown};
@@ -7,28 +8,28 @@ ghost use Rattle.ja_kinds.specs.Solving.{state_at, IsWide, AreWide, Catches, Han
 use crate::behaviour::Behaviour;
 use crate::effect::Effect;
 use crate::frame::Frame;
-use crate::law::law_one_effect;
 use crate::merge::{is_below, merge};
-use crate::reading::effect_of;
 use crate::state::{KindState, State};
 use crate::step::{accepted, copy, one};
-use crate::table::behaviour_of;
 use ja_base::{Kind, Memory};
 use ja_code::{Code, RawHandler, RawInstr};
 use ja_pool::Pool;
 use std::alloc::Global;
 
-/// Hands a state to a place, if it is one of the code, and says whether what is known there changes.
-fn raise(
+/// Hands a state to a place, if it is one of the code, and says whether what is known there changes; then
+/// the place is marked.
+pub(crate) fn raise(
     alloc: Global,
     max_locals: u32,
     states: &mut [State],
+    dirty: &mut [bool],
     place: u64,
     state: &State,
 ) -> Result<bool, Memory>
     requires states { AreWide max_locals states.old }
+    requires dirty { length dirty.old ≡ length states.old }
     requires state { IsWide max_locals state.now }
-    ensures { IfOk result (Hands max_locals (λ p. p ≡ place) state.now states.old states.new) }
+    ensures { IfOk result (Hands max_locals (λ p. p ≡ place) state.now states.old states.new dirty.old dirty.new) }
 {
     if place >= states.len() as u64 {
         return Ok(false);
@@ -39,6 +40,7 @@ fn raise(
     }
     let merged = merge(alloc, &states[at], state)?;
     states[at] = merged;
+    dirty[at] = true;
     Ok(true)
 }
 
@@ -47,26 +49,41 @@ fn raise_all(
     alloc: Global,
     max_locals: u32,
     states: &mut [State],
+    dirty: &mut [bool],
     places: &[u64],
     state: &State,
 ) -> Result<bool, Memory>
     requires states { AreWide max_locals states.old }
+    requires dirty { length dirty.old ≡ length states.old }
     requires state { IsWide max_locals state.now }
-    ensures { IfOk result (Hands max_locals (λ p. IsOneOf p places.now) state.now states.old states.new) }
+    ensures { IfOk result (Hands max_locals (λ p. IsOneOf p places.now) state.now states.old states.new dirty.old dirty.new) }
 {
     let mut changed = false;
     for place in places {
-        let rose = raise(alloc, max_locals, states, *place, state)?;
+        let rose = raise(alloc, max_locals, states, dirty, *place, state)?;
         changed |= rose;
     }
     Ok(changed)
 }
 
-/// What an instruction hands on: to the places where it may go next, and to its handlers.
+/// What an instruction hands on: to the places where it may go next, and to its handlers, where it has any.
 #[derive(Drop)]
-struct Outcome {
-    after: State,
-    thrown: State,
+pub(crate) struct Outcome {
+    pub after: State,
+    pub thrown: State,
+}
+
+/// What is known at a handler of an instruction that takes this state; nothing is copied where none is
+/// there.
+fn exception(alloc: Global, covered: bool, state: &KindState) -> Result<State, Memory>
+    ensures { covered ≡ true → IfOk result (λ s. s ≡ Known (record { locals = state.now.locals; stack = R ∷ [] })) }
+{
+    if !covered {
+        return Ok(State::Unreached);
+    }
+    let locals = copy(alloc, &state.locals)?;
+    let stack = one(alloc, Kind::R)?;
+    Ok(State::Known(KindState { locals, stack }))
 }
 
 /// What an instruction hands on where this is known before it.
@@ -74,10 +91,11 @@ fn outcome_known(
     alloc: Global,
     frame: &Frame,
     effect: &Effect,
+    covered: bool,
     state: &KindState,
 ) -> Result<Outcome, Memory>
     ensures after { IfOk result (λ h. h.after ≡ after frame.now effect.now (Known state.now)) }
-    ensures thrown { IfOk result (λ h. h.thrown ≡ thrown frame.now effect.now (Known state.now)) }
+    ensures thrown { covered ≡ true → IfOk result (λ h. h.thrown ≡ thrown frame.now effect.now (Known state.now)) }
 {
     let turned = accepted(alloc, frame, effect, state)?;
     match turned {
@@ -86,11 +104,10 @@ fn outcome_known(
             thrown: State::Clash,
         }),
         Some(turned) => {
-            let locals = copy(alloc, &state.locals)?;
-            let stack = one(alloc, Kind::R)?;
+            let thrown = exception(alloc, covered, state)?;
             Ok(Outcome {
                 after: State::Known(turned),
-                thrown: State::Known(KindState { locals, stack }),
+                thrown,
             })
         }
     }
@@ -101,17 +118,18 @@ fn outcome_of(
     alloc: Global,
     frame: &Frame,
     effect: &Effect,
+    covered: bool,
     state: &State,
 ) -> Result<Outcome, Memory>
     ensures after { IfOk result (λ h. h.after ≡ after frame.now effect.now state.now) }
-    ensures thrown { IfOk result (λ h. h.thrown ≡ thrown frame.now effect.now state.now) }
+    ensures thrown { covered ≡ true → IfOk result (λ h. h.thrown ≡ thrown frame.now effect.now state.now) }
 {
     match state {
         State::Unreached => Ok(Outcome {
             after: State::Unreached,
             thrown: State::Unreached,
         }),
-        State::Known(known) => outcome_known(alloc, frame, effect, known),
+        State::Known(known) => outcome_known(alloc, frame, effect, covered, known),
         State::Clash => Ok(Outcome {
             after: State::Clash,
             thrown: State::Clash,
@@ -120,20 +138,21 @@ fn outcome_of(
 }
 
 /// What an instruction hands on in the state at its place.
-fn outcome_at(
+pub(crate) fn outcome_at(
     alloc: Global,
     frame: &Frame,
     effect: &Effect,
+    covered: bool,
     states: &[State],
     pc: u32,
 ) -> Result<Outcome, Memory>
     ensures after { IfOk result (λ h. h.after ≡ after frame.now effect.now (state_at states.now pc)) }
-    ensures thrown { IfOk result (λ h. h.thrown ≡ thrown frame.now effect.now (state_at states.now pc)) }
+    ensures thrown { covered ≡ true → IfOk result (λ h. h.thrown ≡ thrown frame.now effect.now (state_at states.now pc)) }
 {
     if pc as usize >= states.len() {
-        return outcome_of(alloc, frame, effect, &State::Unreached);
+        return outcome_of(alloc, frame, effect, covered, &State::Unreached);
     }
-    outcome_of(alloc, frame, effect, &states[pc as usize])
+    outcome_of(alloc, frame, effect, covered, &states[pc as usize])
 }
 
 /// Whether the next instruction in the code may come after one.
@@ -166,18 +185,27 @@ fn raise_targets(
     alloc: Global,
     max_locals: u32,
     states: &mut [State],
+    dirty: &mut [bool],
     instr: &RawInstr,
     behaviour: Behaviour,
     state: &State,
 ) -> Result<bool, Memory>
     requires states { AreWide max_locals states.old }
+    requires dirty { length dirty.old ≡ length states.old }
     requires state { IsWide max_locals state.now }
-    ensures { IfOk result (Hands max_locals (λ p. IsOneOf p (targets_of behaviour instr.now)) state.now states.old states.new) }
+    ensures { IfOk result (Hands max_locals (λ p. IsOneOf p (targets_of behaviour instr.now)) state.now states.old states.new dirty.old dirty.new) }
 {
     if !branches(behaviour) {
         return Ok(false);
     }
-    raise_all(alloc, max_locals, states, instr.operands.as_slice(), state)
+    raise_all(
+        alloc,
+        max_locals,
+        states,
+        dirty,
+        instr.operands.as_slice(),
+        state,
+    )
 }
 
 /// Hands a state to the next instruction, where it may come after this one.
@@ -185,37 +213,60 @@ fn raise_next(
     alloc: Global,
     max_locals: u32,
     states: &mut [State],
+    dirty: &mut [bool],
     instr: &RawInstr,
     behaviour: Behaviour,
     state: &State,
 ) -> Result<bool, Memory>
     requires states { AreWide max_locals states.old }
+    requires dirty { length dirty.old ≡ length states.old }
     requires state { IsWide max_locals state.now }
-    ensures { IfOk result (Hands max_locals (λ p. (goes_on behaviour ≡ true) × (p ≡ instr.now.pc + instr.now.length)) state.now states.old states.new) }
+    ensures { IfOk result (Hands max_locals (λ p. (goes_on behaviour ≡ true) × (p ≡ instr.now.pc + instr.now.length)) state.now states.old states.new dirty.old dirty.new) }
 {
     if !goes_on(behaviour) {
         return Ok(false);
     }
     let next = u64::from(instr.pc) + u64::from(instr.length);
-    raise(alloc, max_locals, states, next, state)
+    raise(alloc, max_locals, states, dirty, next, state)
 }
 
 /// Hands a state to each place where the normal end of an instruction leads.
-fn raise_after(
+pub(crate) fn raise_after(
     alloc: Global,
     max_locals: u32,
     states: &mut [State],
+    dirty: &mut [bool],
     instr: &RawInstr,
     behaviour: Behaviour,
     state: &State,
 ) -> Result<bool, Memory>
     requires states { AreWide max_locals states.old }
+    requires dirty { length dirty.old ≡ length states.old }
     requires state { IsWide max_locals state.now }
-    ensures { IfOk result (Hands max_locals (λ p. LeadsTo instr.now behaviour p) state.now states.old states.new) }
+    ensures { IfOk result (Hands max_locals (λ p. LeadsTo instr.now behaviour p) state.now states.old states.new dirty.old dirty.new) }
 {
-    let branched = raise_targets(alloc, max_locals, states, instr, behaviour, state)?;
-    let went_on = raise_next(alloc, max_locals, states, instr, behaviour, state)?;
+    let branched = raise_targets(alloc, max_locals, states, dirty, instr, behaviour, state)?;
+    let went_on = raise_next(alloc, max_locals, states, dirty, instr, behaviour, state)?;
     Ok(branched | went_on)
+}
+
+/// Whether the range of an entry of the exception table has the pc.
+fn covers(row: RawHandler, pc: u32) -> bool
+    ensures { result ≡ (nat_le row.start pc && nat_lt pc row.end) }
+{
+    u32::from(row.start) <= pc && pc < u32::from(row.end)
+}
+
+/// Whether an instruction has a handler.
+pub(crate) fn is_covered(rows: &[RawHandler], pc: u32) -> bool
+    ensures { result ≡ false → (place : ℕ) → HandledAt rows.now pc place → ⊥ }
+{
+    for row in rows {
+        if covers(*row, pc) {
+            return true;
+        }
+    }
+    false
 }
 
 /// Hands a state to the handler of an entry of the exception table, where its range has the pc.
@@ -223,13 +274,15 @@ fn raise_handler(
     alloc: Global,
     max_locals: u32,
     states: &mut [State],
+    dirty: &mut [bool],
     row: RawHandler,
     pc: u32,
     state: &State,
 ) -> Result<bool, Memory>
     requires states { AreWide max_locals states.old }
+    requires dirty { length dirty.old ≡ length states.old }
     requires state { IsWide max_locals state.now }
-    ensures { IfOk result (Hands max_locals (λ p. Catches row pc p) state.now states.old states.new) }
+    ensures { IfOk result (Hands max_locals (λ p. Catches row pc p) state.now states.old states.new dirty.old dirty.new) }
 {
     let start = u32::from(row.start);
     let end = u32::from(row.end);
@@ -239,25 +292,34 @@ fn raise_handler(
     if pc >= end {
         return Ok(false);
     }
-    raise(alloc, max_locals, states, u64::from(row.handler), state)
+    raise(
+        alloc,
+        max_locals,
+        states,
+        dirty,
+        u64::from(row.handler),
+        state,
+    )
 }
 
 /// Hands a state to each handler whose range has the pc.
-fn raise_handlers(
+pub(crate) fn raise_handlers(
     alloc: Global,
     max_locals: u32,
     states: &mut [State],
+    dirty: &mut [bool],
     rows: &[RawHandler],
     pc: u32,
     state: &State,
 ) -> Result<bool, Memory>
     requires states { AreWide max_locals states.old }
+    requires dirty { length dirty.old ≡ length states.old }
     requires state { IsWide max_locals state.now }
-    ensures { IfOk result (Hands max_locals (λ p. HandledAt rows.now pc p) state.now states.old states.new) }
+    ensures { IfOk result (Hands max_locals (λ p. HandledAt rows.now pc p) state.now states.old states.new dirty.old dirty.new) }
 {
     let mut changed = false;
     for row in rows {
-        let rose = raise_handler(alloc, max_locals, states, *row, pc, state)?;
+        let rose = raise_handler(alloc, max_locals, states, dirty, *row, pc, state)?;
         changed |= rose;
     }
     Ok(changed)

@@ -14,7 +14,7 @@ pub struct KindState {
 
 /// What is known before an instruction.
 #[derive(Drop)]
-pub(crate) enum State {
+pub enum State {
     /// No way leads there.
     Unreached,
     /// Each way that leads there brings this stack, and locals that may be taken for these.

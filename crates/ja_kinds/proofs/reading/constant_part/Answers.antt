@@ -1,6 +1,4 @@
-use Rattle.std.proofs.Common.{◌≡◌, Some, None, sym, ◌∙◌}
 use Rattle.ja_kinds.proofs.Effects.{ok_is, loaded_found, loaded_lost}
-use Rattle.ja_kinds.specs.Effect.{constant_kind}
 use Rattle.ja_kinds.proofs.reading.constant_part.Goals as goal
 
 pub returns-in-Some : goal.returns-in-Some

@@ -1,4 +1,4 @@
-use Rattle.std.proofs.Common.{◌≡◌, length, drop}
+use Rattle.std.proofs.Common.{◌≡◌, drop}
 use Rattle.ja_kinds.specs.Frame.{same_kinds}
 use Rattle.ja_kinds.proofs.stack.same_kinds.Given as goal
 
