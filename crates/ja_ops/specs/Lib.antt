@@ -1,0 +1,12 @@
+pub mod Names
+pub mod Profile
+pub mod Tokens
+pub mod Shuffles
+pub mod Moves
+pub mod Fields
+pub mod Rows
+pub mod Targets
+pub mod Refused
+pub mod Operation
+pub mod Sites
+pub mod Agreement
