@@ -1,0 +1,12 @@
+pub mod Chain
+pub mod InstrSteps
+pub mod SiteSteps
+pub mod Profile
+pub mod Heights
+pub mod Coded
+pub mod Wide
+pub mod Targets
+pub mod Reaches
+pub mod Whole
+pub mod OneMethod
+pub mod WholeSites

@@ -1,0 +1,6 @@
+pub mod Places
+pub mod Handlers
+pub mod Method
+pub mod Sites
+pub mod Refusal
+pub mod Whole
