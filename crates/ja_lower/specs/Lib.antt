@@ -1,0 +1,5 @@
+pub mod Folder
+pub mod Refusals
+pub mod Program
+pub mod Steps
+pub mod Accept

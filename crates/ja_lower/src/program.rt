@@ -1,0 +1,73 @@
+ghost use Rattle.std.specs.Prelude.{◌≡◌, All, IfOk, IfErr, OnOk, length};
+ghost use Rattle.ja_class.specs.ClassFile.{IsSpelled};
+ghost use Rattle.ja_hier.specs.Faults.{IsHierarchy};
+ghost use Rattle.ja_hier.specs.Members.{IsNumbered};
+ghost use Rattle.ja_lower.specs.Program.{AreFew, IsLowerFault, IsProgramOf, heads_of};
+
+use crate::LowerFault;
+use crate::copy::copy_head;
+use crate::methods::code_of;
+use crate::refusal::hier_fault;
+use ja_base::{Memory, Names, Seq};
+use ja_class::Class;
+use ja_hier::{Hier, hierarchy};
+use ja_ir::{ClassHead, Program};
+use ja_lib::Table;
+use ja_methods::law_whole_method;
+use ja_outline::{class_infos, entries, fields};
+use std::alloc::Global;
+
+/// The program that classes and a table make. The name of the file of each class stands at its place.
+///
+/// # Errors
+///
+/// The first refusal: of the hierarchy of the classes, and else of the first method that is refused, in the
+/// order of the classes and, in one class, as declared. `Memory` for want of memory.
+pub fn lower(
+    alloc: Global,
+    names: &Names,
+    classes: &[Class],
+    t: &Table,
+) -> Result<Program, LowerFault>
+    requires files { length names.now ≡ length classes.now }
+    requires few { AreFew classes.now }
+    ensures program { IfOk result (IsProgramOf names.now classes.now t.now) }
+    ensures refused { IfErr result (IsLowerFault names.now classes.now) }
+{
+    law_whole_method();
+    let hier = hierarchy_of(alloc, names, classes)?;
+    let code = code_of(alloc, names, &hier, classes, t)?;
+    let infos = class_infos(alloc, &hier, names)?;
+    let fields = fields(alloc, &hier)?;
+    let entries = entries(alloc, &hier, t)?;
+    Ok(Program::new(infos, code.methods, fields, entries, code.sites))
+}
+
+/// The hierarchy of the classes.
+fn hierarchy_of(alloc: Global, names: &Names, classes: &[Class]) -> Result<Hier, LowerFault>
+    requires files { length names.now ≡ length classes.now }
+    requires numbered { IsNumbered (heads_of classes.now) }
+    ensures heads { IfOk result (λ hier. hier ≡ heads_of classes.now) }
+    ensures valid { OnOk result (IsHierarchy (heads_of classes.now)) }
+    ensures spelled { OnOk result (All IsSpelled classes.now) }
+    ensures refused { IfErr result (IsLowerFault names.now classes.now) }
+{
+    let heads = heads_of(alloc, classes)?;
+    match hierarchy(alloc, heads.as_slice()) {
+        Ok(hier) => Ok(hier),
+        Err(fault) => Err(hier_fault(alloc, names, fault)),
+    }
+}
+
+/// What the class files say apart from code.
+fn heads_of(alloc: Global, classes: &[Class]) -> Result<Seq<ClassHead>, Memory>
+    ensures heads { IfOk result (λ heads. heads ≡ heads_of classes.now) }
+    ensures spelled { OnOk result (All IsSpelled classes.now) }
+{
+    let mut heads = Seq::new(alloc);
+    for class in classes {
+        let head = copy_head(alloc, &class.head)?;
+        heads.push(head)?;
+    }
+    Ok(heads)
+}
