@@ -1,158 +1,27 @@
--- The class that a listing spells: what its class file is to say (JVM specification 4.1, 4.5, 4.6, 4.7.3). Nothing here
--- speaks of bytes or of the order of the pool.
-use Rattle.std.specs.Prelude.{◌≡◌, ℕ, ◌+◌, ◌-◌, ◌%◌, ◌^◌, Bool, false, not, ◌&&◌, ◌||◌, List, [], ◌∷◌, Option, Some, None, bytes_eq, codes, nat_lt, ◌==◌, if◌then◌else◌}
-use Rattle.std.specs.List.{flat_map}
+-- What the class file of a listed class is to say (JVM specification 4.1, 4.5, 4.6, 4.7.3), and the order of its pool.
+use Rattle.std.specs.Prelude.{◌≡◌, ℕ, ◌+◌, Bool, true, false, List, [], ◌∷◌, codes, slice_get, Option, Some, None}
 use Rattle.ja_code.specs.declared.opcode.Form.{Form}
 use Rattle.ja_code.specs.declared.opcode.Form.TheVariants as forms
 use Rattle.ja_code.specs.declared.instr.RawInstr.{RawInstr}
 use Rattle.ja_code.specs.declared.handler.RawHandler.{RawHandler}
 use Rattle.ja_code.specs.declared.code.Code.{Code}
 use Rattle.ja_code.specs.Opcode.{form_at}
-use Rattle.ja_code.specs.Faults.{front_size}
-use Rattle.ja_pool.specs.Table.{Table, tag_at, text_at, first_at, class_name_at, member_class_at, member_name_at, member_desc_at}
-use Rattle.ja_maker.specs.declared.number.Number.{Number}
-use Rattle.ja_maker.specs.declared.item.MemberName.{MemberName}
-use Rattle.ja_maker.specs.declared.item.Head.{Head}
-use Rattle.ja_maker.specs.declared.item.Frame.{Frame}
-use Rattle.ja_maker.specs.declared.item.Operand.{Operand}
-use Rattle.ja_maker.specs.declared.item.Operand.TheVariants.{Nothing, Constant, LocalAndConstant, Label, Quotation, ClassName, FieldName, MethodName, ArrayName}
-use Rattle.ja_maker.specs.declared.item.Item.{Item}
-use Rattle.ja_maker.specs.declared.item.Item.TheVariants.{Field, Method, Initializer, Try, Instruction}
-use Rattle.ja_maker.specs.Listed.{Listed}
-
--- ---- numbers in fields
-
--- a number fits an unsigned field of so many bits
-abbrev pub fits : ℕ → Number → Bool
-fits bits n = nat_lt n.size (2 ^ bits) && (not n.negative || n.size == 0)
-
--- a number fits a field of so many bits and a sign, in two's complement
-abbrev pub fits_signed : ℕ → Number → Bool
-fits_signed bits n = if n.negative then nat_lt n.size (2 ^ bits + 1) else nat_lt n.size (2 ^ bits)
-
--- the unsigned number whose bits stand for a number in two's complement
-abbrev pub unsigned : ℕ → Number → ℕ
-unsigned bits n = if n.negative then (2 ^ bits - n.size) % 2 ^ bits else n.size
-
-abbrev pub plain_number : ℕ → Number
-plain_number n = record { negative = false; size = n }
-
--- ---- the members of a class
-
--- a field or the head of a method
-pub record Member : Type 0 where
-  pub flags : Number
-  pub name : List ℕ
-  pub desc : List ℕ
-
--- an instruction of a method, and an entry of its exception table
-pub record Labelled : Type 0 where
-  pub label : Option (List ℕ)
-  pub opcode : ℕ
-  pub operand : Operand
-
-pub record Range : Type 0 where
-  pub start : List ℕ
-  pub end : List ℕ
-  pub handler : List ℕ
-  pub catch : Option (List ℕ)
-
--- a method with its instructions and its entries, each in order
-pub record Body : Type 0 where
-  pub member : Member
-  pub frame : Option Frame
-  pub instructions : List Labelled
-  pub ranges : List Range
-
-abbrev pub instruction : ℕ → Operand → Item
-instruction opcode operand = Instruction None opcode operand
-
--- the constructor that calls that of a superclass: `aload_0`, `invokespecial` and `return`
-abbrev pub initializer : List ℕ → List Item
-initializer superclass =
-    Method (plain_number 1) (codes "<init>") (codes "()V") (Some (record { stack = plain_number 1; locals = plain_number 1 }))
-    ∷ instruction 42 Nothing
-    ∷ instruction 183 (MethodName (record { class = superclass; name = codes "<init>"; desc = codes "()V" }))
-    ∷ instruction 177 Nothing
-    ∷ []
-
--- what an item stands for
-abbrev pub expanded : List ℕ → Item → List Item
-expanded superclass (Field flags name desc) = Field flags name desc ∷ []
-expanded superclass (Method flags name desc frame) = Method flags name desc frame ∷ []
-expanded superclass Initializer = initializer superclass
-expanded superclass (Try start end handler catch) = Try start end handler catch ∷ []
-expanded superclass (Instruction label opcode operand) = Instruction label opcode operand ∷ []
-
--- the items that a listed class stands for
-abbrev pub items_of_class : Listed → List Item
-items_of_class class = flat_map (expanded class.head.superclass) class.items
-
--- the fields among items
-abbrev pub fields : List Item → List Member
-fields [] = []
-fields (Field flags name desc ∷ items) = record { flags = flags; name = name; desc = desc } ∷ fields items
-fields (Method flags name desc frame ∷ items) = fields items
-fields (Initializer ∷ items) = fields items
-fields (Try start end handler catch ∷ items) = fields items
-fields (Instruction label opcode operand ∷ items) = fields items
-
--- the instructions up to the next method
-abbrev pub instructions : List Item → List Labelled
-instructions [] = []
-instructions (Field flags name desc ∷ items) = instructions items
-instructions (Method flags name desc frame ∷ items) = []
-instructions (Initializer ∷ items) = []
-instructions (Try start end handler catch ∷ items) = instructions items
-instructions (Instruction label opcode operand ∷ items) = record { label = label; opcode = opcode; operand = operand } ∷ instructions items
-
--- the entries of the exception table up to the next method
-abbrev pub ranges : List Item → List Range
-ranges [] = []
-ranges (Field flags name desc ∷ items) = ranges items
-ranges (Method flags name desc frame ∷ items) = []
-ranges (Initializer ∷ items) = []
-ranges (Try start end handler catch ∷ items) = record { start = start; end = end; handler = handler; catch = catch } ∷ ranges items
-ranges (Instruction label opcode operand ∷ items) = ranges items
-
--- the methods among items
-abbrev pub methods : List Item → List Body
-methods [] = []
-methods (Field flags name desc ∷ items) = methods items
-methods (Method flags name desc frame ∷ items) =
-    record { member = record { flags = flags; name = name; desc = desc }; frame = frame; instructions = instructions items; ranges = ranges items }
-    ∷ methods items
-methods (Initializer ∷ items) = methods items
-methods (Try start end handler catch ∷ items) = methods items
-methods (Instruction label opcode operand ∷ items) = methods items
-
--- ---- places in the code
-
-abbrev pub size_of_form : Option Form → ℕ
-size_of_form None = 0
-size_of_form (Some form) = front_size form 0
-
--- the number of bytes of an instruction: its form alone tells it, since no switch is in the notation
-abbrev pub size_of_opcode : ℕ → ℕ
-size_of_opcode opcode = size_of_form (form_at opcode)
-
--- the number of bytes of instructions
-abbrev pub code_size : List Labelled → ℕ
-code_size [] = 0
-code_size (i ∷ is) = size_of_opcode i.opcode + code_size is
-
-abbrev pub is_label_of : List ℕ → Option (List ℕ) → Bool
-is_label_of name None = false
-is_label_of name (Some label) = bytes_eq label name
-
--- where the instruction with a label begins, where the first of all begins at pc
-abbrev pub place_of_label : ℕ → List Labelled → List ℕ → Option ℕ
-place_of_label pc [] name = None
-place_of_label pc (i ∷ is) name =
-    if is_label_of name i.label then Some pc
-    else place_of_label (pc + size_of_opcode i.opcode) is name
-
--- ---- what the class file says
+use Rattle.ja_pool.specs.Entry.{Entry}
+use Rattle.ja_pool.specs.Table.{Table, IsAt, tag_at, text_at, first_at, class_name_at, member_class_at, member_name_at, member_desc_at}
+use Rattle.ja_attr.specs.declared.code.MethodCode.{MethodCode}
+use Rattle.ja_attr.specs.Attribute.{AttributeInfo, IsCode}
+use Rattle.ja_class.specs.Meaning.{ClassSpelled}
+use Rattle.ja_class.specs.ClassFile.{MemberInfo, ClassFile, pool_of, spelling, Says}
+use Rattle.ja_listing.specs.declared.number.Number.{Number}
+use Rattle.ja_listing.specs.declared.item.MemberName.{MemberName}
+use Rattle.ja_listing.specs.declared.item.Head.{Head}
+use Rattle.ja_listing.specs.declared.item.Frame.{Frame}
+use Rattle.ja_listing.specs.declared.item.Operand.{Operand}
+use Rattle.ja_listing.specs.declared.item.Operand.TheVariants.{Nothing, Constant, LocalAndConstant, Label, Quotation, ClassName, FieldName, MethodName, ArrayName}
+use Rattle.ja_listing.specs.Number.{has_code}
+use Rattle.ja_listing.specs.Listed.{Listed}
+use Rattle.ja_maker.specs.Members.{unsigned, Member, Labelled, Range, Body, items_of_class, fields, methods, size_of_opcode, place_of_label}
+use Rattle.ja_maker.specs.Wanted.{method_tag, pool_strings}
 
 -- the entry at an index is a class of this name
 pub record NamesClass (table : Table) (i : ℕ) (name : List ℕ) : Type 0 where
@@ -176,11 +45,6 @@ abbrev pub constant_of : Option Form → Number → ℕ
 constant_of (Some forms.Byte) n = unsigned 8 n
 constant_of (Some forms.Short) n = unsigned 16 n
 constant_of _ n = n.size
-
--- the tag of the entries that name the methods of an opcode: those of an interface, or of a class
-abbrev pub method_tag : Option Form → ℕ
-method_tag (Some forms.Interface) = 11
-method_tag _ = 10
 
 -- the operands of a written instruction say what the listed one does, where labels tells where the labels stand
 abbrev pub SaysOperand : Table → (List ℕ → Option ℕ) → Option Form → Operand → List ℕ → Type 0
@@ -237,3 +101,62 @@ pub record SaysMember (table : Table) (member : Member) (flags name desc : ℕ) 
   pub name_is : text_at table name ≡ member.name
   pub desc_tag : tag_at table desc ≡ 1
   pub desc_is : text_at table desc ≡ member.desc
+
+-- ---- the whole class file
+
+-- fields of a class file, without attributes, are the listed ones, in order
+abbrev pub SayFields : Table → List Member → List MemberInfo → Type 0
+SayFields table [] [] = Unit {0}
+SayFields table [] (info ∷ infos) = ⊥
+SayFields table (m ∷ ms) [] = ⊥
+SayFields table (m ∷ ms) (info ∷ infos) =
+    SaysMember table m info.access_flags info.name_index info.descriptor_index × (info.attributes ≡ []) × SayFields table ms infos
+
+-- the one attribute of a method with code: it has no attributes itself, and its code is the listed one
+pub record SaysAttribute (table : Table) (body : Body) (frame : Frame) (a : AttributeInfo) : Type 0 where
+  pub name_is : text_at table a.attribute_name_index ≡ codes "Code"
+  pub spelled : MethodCode
+  pub code : IsCode table a.info spelled
+  pub bare : code.attribute.attributes ≡ []
+  pub says : SaysCode table body frame spelled.max_stack spelled.max_locals spelled.code
+
+-- the attributes of a method: that of its code where it has code by its flags, and else none
+abbrev pub SayAttributes : Table → Body → Option Frame → Bool → List AttributeInfo → Type 0
+SayAttributes table body frame false attributes = attributes ≡ []
+SayAttributes table body None true attributes = ⊥
+SayAttributes table body (Some frame) true [] = ⊥
+SayAttributes table body (Some frame) true (a ∷ []) = SaysAttribute table body frame a
+SayAttributes table body (Some frame) true (a ∷ b ∷ attributes) = ⊥
+
+-- the methods of a class file are the listed ones, in order
+abbrev pub SayMethods : Table → List Body → List MemberInfo → Type 0
+SayMethods table [] [] = Unit {0}
+SayMethods table [] (info ∷ infos) = ⊥
+SayMethods table (b ∷ bs) [] = ⊥
+SayMethods table (b ∷ bs) (info ∷ infos) =
+    SaysMember table b.member info.access_flags info.name_index info.descriptor_index
+    × SayAttributes table b b.frame (has_code b.member.flags) info.attributes × SayMethods table bs infos
+
+-- The order of a pool: each entry stands once, and first come the strings that `ldc` loads, in the order of their first use.
+pub record IsOrdered (table : Table) (strings : List (List ℕ)) : Type 0 where
+  pub once : (i j : ℕ) (entry : Entry) → IsAt table i entry → IsAt table j entry → i ≡ j
+  pub first : (i : ℕ) (bytes : List ℕ) → slice_get strings i ≡ Some bytes → NamesText table (i + 1) bytes
+
+-- a class file of version 52.0 that says what a listed class says, and no more
+pub record SaysListed (c : Listed) (file : ClassFile) : Type 0 where
+  pub minor : file.minor_version ≡ 0
+  pub major : file.major_version ≡ 52
+  pub head : SaysHead (pool_of file) c.head file.access_flags file.this_class file.super_class
+  pub interfaces : file.interfaces ≡ []
+  pub fields_are : SayFields (pool_of file) (fields (items_of_class c)) file.fields
+  pub methods_are : SayMethods (pool_of file) (methods (items_of_class c)) file.methods
+  pub attributes : file.attributes ≡ []
+  pub order : IsOrdered (pool_of file) (pool_strings (items_of_class c))
+
+-- bytes are the class file of a listed class: one of the profile, which says what is listed
+pub record IsWritten (c : Listed) (bytes : List ℕ) : Type 0 where
+  pub file : ClassFile
+  pub class : ClassSpelled
+  pub says : Says file class
+  pub whole : bytes ≡ spelling file
+  pub listed : SaysListed c file

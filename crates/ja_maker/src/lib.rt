@@ -1,23 +1,31 @@
-//! Classes written as text: the reader of listings.
+//! Classes written as text: the reader of listings, and the writer of class files.
 #![tactic(auto)]
 
-mod draft;
-mod fault;
-mod glyph;
-mod item;
-mod line;
-mod listing;
-mod number;
-mod operand;
-mod read;
-mod scope;
-mod word;
+mod argument;
+mod ask;
+mod class_bytes;
+mod code_bytes;
+mod constructor_bytes;
+mod flaw;
+mod judge;
+mod judge_item;
+mod judge_operand;
+mod judge_text;
+mod key;
+mod labels;
+mod law;
+mod method_bytes;
+mod place;
+mod pool_bytes;
+mod pool_lists;
+mod put;
+mod wants;
+mod write;
 
-pub use fault::MakeFault;
-pub use item::{Frame, Head, Item, Items, Line, MemberName, Operand};
-pub use listing::{Listing, Listings};
-pub use number::Number;
-pub use read::read_listing;
-
-#[cfg(test)]
-mod tests;
+pub use ja_listing::{
+    Frame, Head, Item, Items, Listing, Listings, MakeFault, MemberName, Number, Operand,
+    read_listing,
+};
+pub use judge::check_class;
+pub use law::law_argument_words;
+pub use write::write_class;

@@ -1,0 +1,10 @@
+pub mod Text
+pub mod Word
+pub mod Number
+pub mod Operand
+pub mod Item
+pub mod Order
+pub mod Listed
+pub mod Notation
+pub mod Reading
+pub mod Scope

@@ -1,0 +1,15 @@
+use Rattle.std.proofs.Common.{◌≡◌, ℕ, List, ◌++◌, length}
+use Rattle.ja_maker.specs.Judging.{places, instructions_in}
+use Rattle.ja_maker.specs.Assembled.{instruction_bytes}
+use Rattle.ja_maker.specs.Writing.{pool_in}
+use Rattle.ja_maker.proofs.code_bytes.put_instructions.Given as goal
+
+-- what is written and what the rest asks for are what all items ask for
+abbrev pub invariant-loop-item : goal.invariant-loop-item
+invariant-loop-item l =
+    (superclass : List ℕ)
+    → l.out ++ instruction_bytes (pool_in l.pool) (places l.labels) l.place (instructions_in superclass l.rest)
+    ≡ l.fn.out ++ instruction_bytes (pool_in l.pool) (places l.labels) l.pc (instructions_in superclass l.items)
+
+abbrev pub decreases-loop-item : goal.decreases-loop-item
+decreases-loop-item l = length l.rest

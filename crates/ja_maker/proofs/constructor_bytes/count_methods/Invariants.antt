@@ -1,0 +1,13 @@
+use Rattle.std.proofs.Common.{◌≡◌, ℕ, ◌+◌, List, length}
+use Rattle.std.specs.List.{flat_map}
+use Rattle.ja_maker.specs.Members.{expanded, methods}
+use Rattle.ja_maker.proofs.constructor_bytes.count_methods.Given as goal
+
+-- those so far and those of the rest are all
+abbrev pub invariant-loop-item : goal.invariant-loop-item
+invariant-loop-item l =
+    (superclass : List ℕ)
+    → l.count + length (methods (flat_map (expanded superclass) l.rest)) ≡ length (methods (flat_map (expanded superclass) l.items))
+
+abbrev pub decreases-loop-item : goal.decreases-loop-item
+decreases-loop-item l = length l.rest
