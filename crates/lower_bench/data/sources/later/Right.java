@@ -1,0 +1,3 @@
+package shapes;
+
+interface Right { default int side() { return 2; } }
