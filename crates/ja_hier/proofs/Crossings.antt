@@ -4,9 +4,8 @@ use Rattle.std.specs.Prelude.{Some, Contains, map, slice_get}
 use Rattle.std.proofs.lemmas.Option.{slice_get_within}
 use Rattle.ja_ir.specs.declared.head.ClassHead.{ClassHead}
 use Rattle.ja_ir.specs.declared.head.HeadMethod.{HeadMethod}
-use Rattle.ja_supers.specs.Supertypes.{IsSuperclass}
 use Rattle.ja_hier.specs.declared.starts.Member.TheVariants.{Method}
-use Rattle.ja_hier.specs.Faults.{Hides, Crosses, CrossesPackage, is_virtual}
+use Rattle.ja_hier.specs.Faults.{Crosses, CrossesPackage, is_virtual}
 use Rattle.ja_hier.specs.Index.{HidesAt, IsIndexOf, classes_at}
 use Rattle.ja_hier.proofs.Indexed.{contains-map}
 use Rattle.std.specs.BTreeMap.{BTreeMap}

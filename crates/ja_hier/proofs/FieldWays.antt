@@ -1,15 +1,12 @@
 -- The search for a field through the supertypes of a class.
-use Rattle.std.proofs.Common.{◌≡◌, ℕ, zero, suc, ◌+◌, ◌<◌, inl, inr, List, [], ◌∷◌, ◌++◌, length, get_or, refl, sym, ap, ◌∙◌, subst, arith, append_assoc}
-use Rattle.std.specs.Prelude.{◌↔◌, Option, Some, None, Contains}
+use Rattle.std.proofs.Common.{◌≡◌, ℕ, zero, suc, ◌<◌, inl, inr, List, [], ◌∷◌, ◌++◌, length, get_or, refl, sym, ap, ◌∙◌, subst, arith, append_assoc}
+use Rattle.std.specs.Prelude.{Option, Some, None, Contains}
 use Rattle.std.proofs.lemmas.List.{get_or_default}
 use Rattle.std.proofs.lemmas.List.Elements.{Contains-get_or}
 use Rattle.ja_ir.specs.declared.head.ClassHead.{ClassHead}
-use Rattle.std.specs.BTreeMap.{BTreeMap}
-use Rattle.ja_hier.specs.declared.starts.Member.TheVariants.{Field}
-use Rattle.ja_hier.specs.Index.{classes_at, DeclaresFor, IsIndexOf, LeadsOn}
-use Rattle.ja_hier.proofs.Indexed.{field-noted}
+use Rattle.ja_hier.specs.Index.{LeadsOn}
 use Rattle.ja_hier.specs.LookUps.{field_in, IsDeclaredAbove, FieldSearch, nowhere, here, further}
-use Rattle.ja_supers.specs.Supertypes.{supertypes_of, IsDirect, IsSupertype, IsAtOrAbove}
+use Rattle.ja_supers.specs.Supertypes.{supertypes_of, IsDirect, IsAtOrAbove}
 use Rattle.ja_supers.proofs.Falls.{first-step, step-above, direct-target}
 
 pub none-from : (o : Option ℕ) → ((k : ℕ) → o ≡ Some k → ⊥) → o ≡ None
@@ -82,11 +79,6 @@ next-above heads name desc c none above =
           let first : (d : ℕ) × IsDirect heads c d × IsAtOrAbove heads d above.0 = first-step heads c above.0 s in
           (first.0, first.1, (above.0, above.1, first.2, above.3))
     ]
-
--- a class that declares the field at or above another one is noted
-pub above-noted : (heads : List ClassHead) (index : BTreeMap (List ℕ) (List ℕ)) (name desc : List ℕ) (c : ℕ) → IsIndexOf Field heads index → IsDeclaredAbove heads name desc c
-    → (e : ℕ) × Contains (classes_at index name) e × DeclaresFor heads name desc c e
-above-noted heads index name desc c are above = (above.0, field-noted heads index name desc above.0 above.1 are above.3, record { above = above.2; declared = (above.1, above.3) })
 
 -- the search goes on at the first direct supertype at or above which the field is declared
 pub leads-on : (heads : List ClassHead) (name desc : List ℕ) (rank : ℕ → ℕ) → ((c d : ℕ) → IsDirect heads c d → rank d < rank c) → (c i : ℕ) (xs : List ℕ) → xs ≡ supertypes_of heads c → field_in heads name desc c ≡ None

@@ -1,14 +1,14 @@
 -- What the index of members has.
 use Rattle.std.proofs.Common.{◌≡◌, ℕ, zero, suc, ◌+◌, ◌<◌, ◌⊎◌, inl, inr, Bool, true, false, cond, List, [], ◌∷◌, ◌++◌, length, map, take, get_or, unwrap_or, is_eq, nat_cmp, refl, sym, ap, ◌∙◌, subst, arith}
-use Rattle.std.specs.Prelude.{◌&&◌, not, Option, Some, None, Contains, bytes_eq, slice_get}
+use Rattle.std.specs.Prelude.{◌==◌, ◌&&◌, not, Option, Some, None, Contains, bytes_eq, slice_get}
 use Rattle.std.specs.Cmp.Lexicographic.{slice_cmp}
 use Rattle.std.specs.BTreeMap.{BTreeMap, get}
-use Rattle.std.proofs.lemmas.Bool.{cases_Bool, cases_lt, and_parts}
-use Rattle.std.proofs.lemmas.List.{take_more, length_push, get_or_append_left, get_or_push, get_or_default}
+use Rattle.std.proofs.lemmas.Bool.{cases_Bool, cases_lt, and_parts, eqb-true}
+use Rattle.std.proofs.lemmas.List.{take_more, get_or_default}
 use Rattle.std.proofs.lemmas.List.Elements.{Contains-push, Contains-push_cases, Contains-append_left, Contains-get_or}
 use Rattle.std.proofs.lemmas.List.Quantifiers.{position-Some}
 use Rattle.std.proofs.lemmas.Map.Text.{is_eq-slice_cmp}
-use Rattle.std.proofs.lemmas.Option.{slice_get_within, get_or_from_slice_get, slice_get_past}
+use Rattle.std.proofs.lemmas.Option.{slice_get_within}
 use Rattle.std.proofs.lemmas.Slice.Eq.{bytes_eq-Decides}
 use Rattle.ja_ir.specs.declared.head.ClassHead.{ClassHead}
 use Rattle.ja_ir.specs.declared.head.HeadField.{HeadField}
@@ -16,8 +16,10 @@ use Rattle.ja_ir.specs.declared.head.HeadMethod.{HeadMethod}
 use Rattle.ja_hier.specs.declared.skip.Skip.{Skip}
 use Rattle.ja_hier.specs.declared.starts.Member.{Member}
 use Rattle.ja_hier.specs.declared.starts.Member.TheVariants.{Field, Method}
-use Rattle.ja_hier.specs.Index.{classes_at, member_names, IsIndexOf, IsNoted}
+use Rattle.ja_hier.specs.Index.{classes_at, member_names, Covers, IsIndexOf, IsNoted}
 use Rattle.ja_hier.specs.LookUps.{fields_of, methods_of, field_in, method_in, skips}
+use Rattle.ja_supers.specs.Supertypes.{AreSupertypes}
+use Rattle.ja_supers.proofs.Falls.{supertype-target}
 use Rattle.ja_hier.proofs.Numbers.{no-field, no-method}
 
 pub contains-map : {X : Type 0} (f : X → List ℕ) (xs : List X) (x : X) → Contains xs x → Contains (map f xs) (f x)
@@ -74,14 +76,21 @@ method-noted heads index skip name desc c k are e =
     let listed : (head : ClassHead) × (slice_get heads c ≡ Some head) × Contains (member_names Method head) name = method-listed heads skip name desc c k e in
     are.complete name c listed.0 listed.1 listed.2
 
--- the numbers that are read from the index are classes
-pub noted-inside : (heads : List ClassHead) (member : Member) (index : BTreeMap (List ℕ) (List ℕ)) (name xs : List ℕ) (i : ℕ) → IsIndexOf member heads index → xs ≡ classes_at index name → i < length xs → get_or xs i 0 < length heads
-noted-inside heads member index name xs i are e lt =
-    are.inside name (get_or xs i 0) (subst (λ (ys : List ℕ). Contains ys (get_or xs i 0)) e (Contains-get_or xs i 0 lt))
-
 -- what holds at each place of a list holds of each of its items
 pub at-item : (P : ℕ → Type 0) (xs : List ℕ) → ((j : ℕ) → j < length xs → P (get_or xs j 0)) → (x : ℕ) → Contains xs x → P x
 at-item P xs each x in' = subst P (get_or_default xs in'.0 0 x in'.1 ∙ in'.2) (each in'.0 in'.1)
+
+-- a list of no length has no items
+pub no-items : (xs : List ℕ) → (length xs == 0) ≡ true → xs ≡ []
+no-items [] e = refl
+no-items (x ∷ xs) e = absurd (omega (arith, eqb-true (length (x ∷ xs)) 0 e))
+
+-- the proper supertypes stand for any listed classes
+pub supertypes-cover : (heads : List ClassHead) (c : ℕ) (listed supertypes : List ℕ) → AreSupertypes heads c supertypes → Covers heads c listed supertypes
+supertypes-cover heads c listed supertypes are = record {
+  inside = λ d in'. supertype-target heads c d ((are.exact d).0 in');
+  complete = λ d above noted. (are.exact d).1 above;
+}
 
 -- ---- how the index is made
 

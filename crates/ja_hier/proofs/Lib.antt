@@ -3,6 +3,8 @@ pub mod FieldWays
 pub mod Packages
 pub mod Numbers
 pub mod OneAnswer
+pub mod Straight
+pub mod Lowest
 pub mod MethodWays
 pub mod Crossings
 pub mod Indexed

@@ -1,5 +1,5 @@
 -- What a list of program classes may not have.
-use Rattle.std.specs.Prelude.{◌≡◌, ℕ, ◌<◌, ◌+◌, ◌==◌, ◌&&◌, Bool, true, not, List, [], ◌∷◌, ◌++◌, Some, Contains, codes, slice_get, if◌then◌else◌}
+use Rattle.std.specs.Prelude.{◌≡◌, ℕ, ◌==◌, ◌&&◌, Bool, true, not, List, [], ◌∷◌, Some, Contains, codes, slice_get, if◌then◌else◌}
 use Rattle.std.specs.List.{list_any}
 use Rattle.ja_ir.specs.declared.head.ClassHead.{ClassHead}
 use Rattle.ja_ir.specs.declared.head.HeadMethod.{HeadMethod}

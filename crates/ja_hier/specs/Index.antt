@@ -1,5 +1,5 @@
 -- What the tables of a hierarchy hold, and what look-ups by them find on the way. Only private functions cite this.
-use Rattle.std.specs.Prelude.{◌≡◌, ℕ, ◌<◌, ◌⊎◌, Bool, true, List, [], ◌∷◌, Option, Some, Contains, length, map, slice_get, slice_index_or, sum_by, take, unwrap_or}
+use Rattle.std.specs.Prelude.{◌≡◌, ℕ, ◌<◌, ◌⊎◌, true, List, [], ◌∷◌, Option, Some, None, Contains, length, map, slice_get, slice_index_or, sum_by, take, unwrap_or}
 use Rattle.std.specs.Ordering.{nat_cmp}
 use Rattle.std.specs.Cmp.Lexicographic.{slice_cmp}
 use Rattle.std.specs.BTreeMap.{BTreeMap, get}
@@ -7,8 +7,9 @@ use Rattle.ja_ir.specs.declared.head.ClassHead.{ClassHead}
 use Rattle.ja_ir.specs.declared.head.HeadField.{HeadField}
 use Rattle.ja_ir.specs.declared.head.HeadMethod.{HeadMethod}
 use Rattle.ja_supers.specs.Faults.{AreClasses}
-use Rattle.ja_supers.specs.Supertypes.{IsAtOrAbove, IsDirect, IsSuperclass, IsSuperinterface}
+use Rattle.ja_supers.specs.Supertypes.{supertypes_of, IsAtOrAbove, IsDirect, IsSuperclass, IsSuperinterface, IsSupertype}
 use Rattle.ja_hier.specs.declared.tables.Tables.{Tables}
+use Rattle.ja_hier.specs.declared.skip.Skip.{Skip}
 use Rattle.ja_hier.specs.declared.skip.Skip.TheVariants.{NoDefault}
 use Rattle.ja_hier.specs.declared.starts.Member.{Member}
 use Rattle.ja_hier.specs.declared.starts.Member.TheVariants.{Field, Method}
@@ -41,12 +42,23 @@ pub record IsNoted (c : ℕ) (names : List (List ℕ)) (old new : BTreeMap (List
   pub only : (name : List ℕ) (d : ℕ) → Contains (classes_at new name) d → Contains (classes_at old name) d ⊎ (d ≡ c)
   pub noted : (name : List ℕ) → Contains names name → Contains (classes_at new name) c
 
+-- class t is class c, or is met on the way up from c on which each class before t has one direct supertype
+pub data IsStraight (heads : List ClassHead) : (c t : ℕ) → Type 0 where
+  stays : {c : ℕ} → IsStraight heads c c
+  upwards : {c t : ℕ} (d : ℕ) → supertypes_of heads c ≡ d ∷ [] → IsStraight heads d t → IsStraight heads c t
+
+-- for each class such a class
+pub record AreForks (heads : List ClassHead) (forks : List ℕ) : Type 0 where
+  pub size : length forks ≡ length heads
+  pub each : (c : ℕ) → c < length heads → IsStraight heads c (slice_index_or forks c 0)
+
 -- the tables are those of a hierarchy
 pub record IsIndexed (tables : Tables) : Type 0 where
   pub valid : AreClasses tables.classes
   pub numbered : IsNumbered tables.classes
   pub field_starts : AreStarts tables.classes (count_of Field) tables.field_starts
   pub method_starts : AreStarts tables.classes (count_of Method) tables.method_starts
+  pub forks : AreForks tables.classes tables.forks
   pub fields : IsIndexOf Field tables.classes tables.field_classes
   pub methods : IsIndexOf Method tables.classes tables.method_classes
 
@@ -54,10 +66,44 @@ pub record IsIndexed (tables : Tables) : Type 0 where
 abbrev pub IsSomePlace : Option ℕ → Type 0
 IsSomePlace place = (k : ℕ) × (place ≡ Some k)
 
+-- a list that stands for the listed classes at class c: it has only classes, and each listed one that is a proper supertype of c
+pub record Covers (heads : List ClassHead) (c : ℕ) (listed chosen : List ℕ) : Type 0 where
+  pub inside : (d : ℕ) → Contains chosen d → d < length heads
+  pub complete : (d : ℕ) → IsSupertype heads c d → Contains listed d → Contains chosen d
+
+-- the lowest class so far, if there is one, is above class e
+abbrev pub IsBelow : (Above : (c d : ℕ) → Type 0) → (lowest : Option ℕ) → (e : ℕ) → Type 0
+IsBelow Above None e = Unit {0}
+IsBelow Above (Some d) e = Above e d
+
+-- each class that is sought is class d or above it
+pub record IsLowest (Sought : ℕ → Type 0) (Above : (c d : ℕ) → Type 0) (d : ℕ) : Type 0 where
+  pub sought : Sought d
+  pub lowest : (e : ℕ) → Sought e → (d ≡ e) ⊎ Above d e
+
+-- class d is a proper superclass of class c and declares a method that the look-up does not pass over
+pub record Inherits (heads : List ClassHead) (skip : Skip) (name desc : List ℕ) (c d : ℕ) : Type 0 where
+  pub superclass : IsSuperclass heads c d
+  pub declared : IsSomePlace (method_in heads skip name desc d)
+
 -- class e is class c or above it and declares the field
 pub record DeclaresFor (heads : List ClassHead) (name desc : List ℕ) (c e : ℕ) : Type 0 where
   pub above : IsAtOrAbove heads c e
   pub declared : IsSomePlace (field_in heads name desc e)
+
+-- class e is a proper supertype of class c, and class t is at or above it
+pub record IsBetween (heads : List ClassHead) (c t e : ℕ) : Type 0 where
+  pub above : IsSupertype heads c e
+  pub below : IsAtOrAbove heads e t
+
+-- class e lies between the classes c and t and declares the field
+pub record Meets (heads : List ClassHead) (name desc : List ℕ) (c t e : ℕ) : Type 0 where
+  pub between : IsBetween heads c t e
+  pub declared : IsSomePlace (field_in heads name desc e)
+
+-- no class from c up to t declares the field
+abbrev pub IsNowhereOn : List ClassHead → (name desc : List ℕ) → (c t : ℕ) → Type 0
+IsNowhereOn heads name desc c t = (e : ℕ) → IsAtOrAbove heads c e → IsAtOrAbove heads e t → IsSomePlace (field_in heads name desc e) → ⊥
 
 -- a superclass d of class c, whose head is given, hides a method of class c
 pub record HidesAt (heads : List ClassHead) (c : ℕ) (head : ClassHead) (method : HeadMethod) (d : ℕ) : Type 0 where

@@ -4,6 +4,7 @@ ghost use Rattle.ja_hier.specs.Faults.{IsFault, IsCrossing, Hides, Crosses, Cros
 ghost use Rattle.ja_hier.specs.Index.{HidesAt, IsHiddenAmong, IsIndexed};
 
 use crate::HierFault;
+use crate::above::fewer;
 use crate::flags::{is_package_private, is_virtual};
 use crate::index::noted;
 use crate::package::same_package;
@@ -56,7 +57,8 @@ fn crosses(tables: &Tables, class: u32, head: &ClassHead, method: &HeadMethod) -
     if is_constructor(method) {
         return false;
     }
-    let listed = noted(&tables.method_classes, &method.name);
+    let declaring = noted(&tables.method_classes, &method.name);
+    let listed = fewer(&tables.classes, class, declaring);
     for other in listed {
         if hides_at(tables, class, head, method, *other as u32) {
             return true;

@@ -1,14 +1,17 @@
-ghost use Rattle.std.specs.Prelude.{◌≡◌, ◌<◌, ◌↔◌, ◌+◌, ◌&&◌, [], ◌∷◌, Some, None, bytes_eq, length, position, IsTrue, IfSome, IfNone};
+ghost use Rattle.std.specs.Prelude.{◌≡◌, ℕ, ◌<◌, ◌↔◌, ◌+◌, ◌&&◌, [], ◌∷◌, Some, None, bytes_eq, length, position, IsTrue, IfSome, IfNone};
 ghost use Rattle.ja_ir.specs.declared.head.HeadField.{HeadField};
-ghost use Rattle.ja_hier.specs.Index.{DeclaresFor, IsIndexed, LeadsOn};
+ghost use Rattle.ja_hier.specs.Index.{classes_at, Covers, DeclaresFor, IsBetween, IsIndexed, IsLowest, IsNowhereOn, IsStraight, LeadsOn, Meets};
+ghost use Rattle.ja_supers.specs.Supertypes.{IsSupertype};
 ghost use Rattle.ja_hier.specs.LookUps.{field_in, field_number, FieldSearch, FindsField, IsDeclaredAbove};
 
 use crate::FieldAt;
+use crate::above::{fewer, has_above};
 use crate::hier::is_at_or_above;
 use crate::index::noted;
 use crate::tables::Tables;
 use ja_base::{FieldId, Name};
 use ja_ir::HeadField;
+use ja_supers::Classes;
 
 /// The place of the first field of this name and descriptor.
 fn position(fields: &[HeadField], name: &Name, desc: &Name) -> Option<usize>
@@ -51,12 +54,15 @@ fn declares_for(tables: &Tables, class: u32, other: u32, name: &Name, desc: &Nam
 }
 
 /// Whether a class at or above this one declares the field.
-fn is_declared_above(tables: &Tables, class: u32, name: &Name, desc: &Name) -> bool
+fn is_declared_above(tables: &Tables, class: u32, name: &Name, desc: &Name, listed: &[u64]) -> bool
     requires indexed { IsIndexed tables.now }
     requires inside { class < length tables.now.classes }
+    requires covers { Covers tables.now.classes class (classes_at tables.now.field_classes name.now) listed.now }
     ensures { IsTrue result ↔ IsDeclaredAbove tables.now.classes name.now desc.now class }
 {
-    let listed = noted(&tables.field_classes, name);
+    if field_in(tables, class, name, desc).is_some() {
+        return true;
+    }
     for other in listed {
         if declares_for(tables, class, *other as u32, name, desc) {
             return true;
@@ -66,20 +72,108 @@ fn is_declared_above(tables: &Tables, class: u32, name: &Name, desc: &Name) -> b
 }
 
 /// The first direct supertype of a class at or above which the field is declared.
-fn next_above(tables: &Tables, class: u32, name: &Name, desc: &Name) -> Option<u32>
+fn next_above(tables: &Tables, class: u32, name: &Name, desc: &Name, listed: &[u64]) -> Option<u32>
     requires indexed { IsIndexed tables.now }
     requires inside { class < length tables.now.classes }
+    requires covers { Covers tables.now.classes class (classes_at tables.now.field_classes name.now) listed.now }
     requires elsewhere { field_in tables.now.classes name.now desc.now class ≡ None }
     ensures some { IfSome result (λ next. LeadsOn tables.now.classes name.now desc.now class next) }
     ensures none { IfNone result (IsDeclaredAbove tables.now.classes name.now desc.now class → ⊥) }
 {
     let supertypes = tables.classes.direct_supertypes(class).as_slice();
     for next in supertypes {
-        if is_declared_above(tables, *next as u32, name, desc) {
+        if is_declared_above(tables, *next as u32, name, desc, listed) {
             return Some(*next as u32);
         }
     }
     None
+}
+
+/// Whether another class is a proper supertype of a class, and not above a third one.
+fn is_between(classes: &Classes, class: u32, fork: u32, other: u32) -> bool
+    requires inside { class < length classes.now }
+    requires fork_inside { fork < length classes.now }
+    requires other_inside { other < length classes.now }
+    ensures { IsTrue result ↔ IsBetween classes.now class fork other }
+{
+    classes.is_supertype(class, other) && is_at_or_above(classes, other, fork)
+}
+
+/// Whether another class lies between two classes and declares the field.
+fn meets(tables: &Tables, class: u32, fork: u32, other: u32, name: &Name, desc: &Name) -> bool
+    requires indexed { IsIndexed tables.now }
+    requires inside { class < length tables.now.classes }
+    requires fork_inside { fork < length tables.now.classes }
+    requires other_inside { other < length tables.now.classes }
+    ensures { IsTrue result ↔ Meets tables.now.classes name.now desc.now class fork other }
+{
+    is_between(&tables.classes, class, fork, other) && field_in(tables, other, name, desc).is_some()
+}
+
+/// The lowest class above this one that declares the field, on a way up without a choice.
+fn lowest_above(
+    tables: &Tables,
+    class: u32,
+    fork: u32,
+    name: &Name,
+    desc: &Name,
+    listed: &[u64],
+) -> Option<u32>
+    requires indexed { IsIndexed tables.now }
+    requires inside { class < length tables.now.classes }
+    requires straight { IsStraight tables.now.classes class fork }
+    requires covers { Covers tables.now.classes class (classes_at tables.now.field_classes name.now) listed.now }
+    ensures some { IfSome result (IsLowest (Meets tables.now.classes name.now desc.now class fork) (IsSupertype tables.now.classes)) }
+    ensures none { IfNone result ((e : ℕ) → Meets tables.now.classes name.now desc.now class fork e → ⊥) }
+{
+    let mut lowest = None;
+    for other in listed {
+        let other = *other as u32;
+        if has_above(&tables.classes, other, lowest)
+            && meets(tables, class, fork, other, name, desc)
+        {
+            lowest = Some(other);
+        }
+    }
+    lowest
+}
+
+/// The field that the search finds on a way up without a choice.
+fn straight_field(
+    tables: &Tables,
+    class: u32,
+    fork: u32,
+    name: &Name,
+    desc: &Name,
+    listed: &[u64],
+) -> Option<FieldId>
+    requires indexed { IsIndexed tables.now }
+    requires inside { class < length tables.now.classes }
+    requires straight { IsStraight tables.now.classes class fork }
+    requires covers { Covers tables.now.classes class (classes_at tables.now.field_classes name.now) listed.now }
+    ensures some { IfSome result (λ f. FieldSearch tables.now.classes name.now desc.now (class ∷ []) (Some f.0)) }
+    ensures none { IfNone result (IsNowhereOn tables.now.classes name.now desc.now class fork) }
+{
+    if let Some(place) = field_in(tables, class, name, desc) {
+        return Some(field_number(tables, class, place, name, desc));
+    }
+    let Some(lowest) = lowest_above(tables, class, fork, name, desc, listed) else {
+        return None;
+    };
+    match field_in(tables, lowest, name, desc) {
+        None => None,
+        Some(place) => Some(field_number(tables, lowest, place, name, desc)),
+    }
+}
+
+/// The class at which the way up from a class forks or ends.
+fn fork_at(tables: &Tables, class: u32) -> u32
+    requires indexed { IsIndexed tables.now }
+    requires inside { class < length tables.now.classes }
+    ensures straight { IsStraight tables.now.classes class result }
+    ensures inside { result < length tables.now.classes }
+{
+    *tables.forks.at(class as u64) as u32
 }
 
 /// Where the look-up of a field that is named in a class ends.
@@ -88,8 +182,10 @@ pub fn find_field(tables: &Tables, class: u32, name: &Name, desc: &Name) -> Fiel
     requires inside { class < length tables.now.classes }
     ensures { FindsField tables.now.classes name.now desc.now class result }
 {
-    if is_declared_above(tables, class, name, desc) {
-        return FieldAt::Program(declared_field(tables, class, name, desc));
+    let declaring = noted(&tables.field_classes, name);
+    let listed = fewer(&tables.classes, class, declaring);
+    if is_declared_above(tables, class, name, desc, listed) {
+        return FieldAt::Program(declared_field(tables, class, name, desc, listed));
     }
     if tables.classes.has_library_supertype(class) {
         FieldAt::Library
@@ -98,19 +194,22 @@ pub fn find_field(tables: &Tables, class: u32, name: &Name, desc: &Name) -> Fiel
     }
 }
 
-/// The field that the look-up finds where some class at or above this one declares it.
-fn declared_field(tables: &Tables, class: u32, name: &Name, desc: &Name) -> FieldId
+/// The field that the look-up finds where some class at or above this one declares it: the search goes
+/// from one class at which the way up forks to the next.
+fn declared_field(tables: &Tables, class: u32, name: &Name, desc: &Name, listed: &[u64]) -> FieldId
     requires indexed { IsIndexed tables.now }
     requires inside { class < length tables.now.classes }
+    requires covers { Covers tables.now.classes class (classes_at tables.now.field_classes name.now) listed.now }
     requires declared { IsDeclaredAbove tables.now.classes name.now desc.now class }
     ensures { FieldSearch tables.now.classes name.now desc.now (class ∷ []) (Some result.0) }
 {
     let mut at = class;
     loop {
-        if let Some(place) = field_in(tables, at, name, desc) {
-            return field_number(tables, at, place, name, desc);
+        let fork = fork_at(tables, at);
+        if let Some(field) = straight_field(tables, at, fork, name, desc, listed) {
+            return field;
         }
-        let Some(next) = next_above(tables, at, name, desc) else {
+        let Some(next) = next_above(tables, fork, name, desc, listed) else {
             return FieldId(0);
         };
         at = next;

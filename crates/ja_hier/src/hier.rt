@@ -9,6 +9,7 @@ ghost use Rattle.ja_supers.specs.Supertypes as supertypes;
 ghost use Rattle.ja_supers.specs.Supertypes.{superclass_of, AreSupertypes, IsAtOrAbove, IsSuperclass};
 
 use crate::crossing::check_packages;
+use crate::forks::forks;
 use crate::index::classes_by_member;
 use crate::skip::Skip;
 use crate::starts::{Member, starts};
@@ -69,12 +70,14 @@ fn tables_of(alloc: Global, heads: &[ClassHead]) -> Result<Tables, HierFault>
     let classes = classes_of(alloc, heads)?;
     let field_starts = starts(alloc, heads, Member::Field)?;
     let method_starts = starts(alloc, heads, Member::Method)?;
+    let forks = forks(alloc, &classes)?;
     let field_classes = classes_by_member(alloc, heads, Member::Field)?;
     let method_classes = classes_by_member(alloc, heads, Member::Method)?;
     Ok(Tables {
         classes,
         field_starts,
         method_starts,
+        forks,
         field_classes,
         method_classes,
     })

@@ -1,5 +1,5 @@
 //! For each name of a member the classes that declare one.
-ghost use Rattle.std.specs.Prelude.{◌≡◌, ℕ, List, ◌∷◌, [], ◌<◌, ◌≤◌, ◌^◌, ◌↔◌, length, map, IsTrue, IfOk, OnOk};
+ghost use Rattle.std.specs.Prelude.{◌≡◌, ℕ, List, ◌∷◌, [], map, IfOk, OnOk};
 ghost use Rattle.ja_ir.specs.declared.head.HeadField.{HeadField};
 ghost use Rattle.ja_ir.specs.declared.head.HeadMethod.{HeadMethod};
 ghost use Rattle.ja_hier.specs.Index.{classes_at, member_names, IsIndexOf, IsNoted};
@@ -93,11 +93,4 @@ pub fn noted<'a>(index: &'a ClassesByName, name: &Name) -> &'a [u64]
         Some(classes) => classes.as_slice(),
         None => &[],
     }
-}
-
-/// Whether no class declares a member of this name.
-pub fn is_unknown(index: &ClassesByName, name: &Name) -> bool
-    ensures { IsTrue result ↔ (classes_at index.now name.now ≡ []) }
-{
-    noted(index, name).is_empty()
 }

@@ -1,11 +1,13 @@
 //! The class hierarchy of a program: what its classes may not have, and look-ups of fields and methods.
 #![tactic(auto)]
 
+mod above;
 mod crossing;
 mod fault;
 mod field_at;
 mod fields;
 mod flags;
+mod forks;
 mod hier;
 mod index;
 mod law;
@@ -14,6 +16,8 @@ mod package;
 mod skip;
 mod starts;
 mod tables;
+#[cfg(test)]
+mod tests;
 
 pub use fault::HierFault;
 pub use field_at::FieldAt;

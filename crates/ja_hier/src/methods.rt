@@ -1,12 +1,14 @@
 ghost use Rattle.std.specs.Prelude.{◌≡◌, ℕ, ◌<◌, ◌↔◌, ◌&&◌, false, not, Some, None, bytes_eq, length, position, IsTrue, IfSome, IfNone};
 ghost use Rattle.ja_ir.specs.declared.head.HeadMethod.{HeadMethod};
 ghost use Rattle.ja_hier.specs.declared.skip.Skip.TheVariants.{NoDefault};
-ghost use Rattle.ja_hier.specs.Index.{IsIndexed, IsSomeCandidate, IsSomePlace, IsOverridden, Overrides, IsSomeLeft, IsOtherLeft, IsLeftNumber};
+ghost use Rattle.ja_hier.specs.Index.{classes_at, Covers, Inherits, IsLowest, IsIndexed, IsSomeCandidate, IsSomePlace, IsOverridden, Overrides, IsSomeLeft, IsOtherLeft, IsLeftNumber};
+ghost use Rattle.ja_supers.specs.Supertypes.{IsSuperclass};
 ghost use Rattle.ja_hier.specs.LookUps as lookups;
 ghost use Rattle.ja_hier.specs.LookUps.{method_in, method_number, answer_at, ClassSearch, FindsDefault, Finds};
 
+use crate::above::{fewer, is_below};
 use crate::flags::{is_abstract, skips};
-use crate::index::{is_unknown, noted};
+use crate::index::noted;
 use crate::skip::Skip;
 use crate::tables::Tables;
 use ja_base::{MethodId, Name};
@@ -73,6 +75,44 @@ fn answer(
     }
 }
 
+/// Whether another class is a superclass of a class and declares the method.
+fn inherits(tables: &Tables, skip: Skip, class: u32, other: u32, name: &Name, desc: &Name) -> bool
+    requires indexed { IsIndexed tables.now }
+    requires inside { class < length tables.now.classes }
+    requires other_inside { other < length tables.now.classes }
+    ensures { IsTrue result ↔ Inherits tables.now.classes skip name.now desc.now class other }
+{
+    tables.classes.is_superclass(class, other)
+        && method_in(tables, skip, other, name, desc).is_some()
+}
+
+/// The nearest superclass of a class that declares the method, among listed classes.
+fn nearest(
+    tables: &Tables,
+    skip: Skip,
+    class: u32,
+    name: &Name,
+    desc: &Name,
+    listed: &[u64],
+) -> Option<u32>
+    requires indexed { IsIndexed tables.now }
+    requires inside { class < length tables.now.classes }
+    requires covers { Covers tables.now.classes class (classes_at tables.now.method_classes name.now) listed.now }
+    ensures some { IfSome result (IsLowest (Inherits tables.now.classes skip name.now desc.now class) (IsSuperclass tables.now.classes)) }
+    ensures none { IfNone result ((d : ℕ) → Inherits tables.now.classes skip name.now desc.now class d → ⊥) }
+{
+    let mut nearest = None;
+    for other in listed {
+        let other = *other as u32;
+        if is_below(&tables.classes, other, nearest)
+            && inherits(tables, skip, class, other, name, desc)
+        {
+            nearest = Some(other);
+        }
+    }
+    nearest
+}
+
 /// Where the search for a method in a class and its program superclasses upwards ends.
 fn class_search(
     tables: &Tables,
@@ -80,20 +120,22 @@ fn class_search(
     class: u32,
     name: &Name,
     desc: &Name,
+    listed: &[u64],
 ) -> Option<MethodAt>
     requires indexed { IsIndexed tables.now }
     requires inside { class < length tables.now.classes }
+    requires covers { Covers tables.now.classes class (classes_at tables.now.method_classes name.now) listed.now }
     ensures { ClassSearch tables.now.classes skip name.now desc.now class result }
 {
-    let mut at = class;
-    loop {
-        if let Some(place) = method_in(tables, skip, at, name, desc) {
-            return Some(answer(tables, skip, at, place, name, desc));
-        }
-        match tables.classes.superclass(at) {
-            None => return None,
-            Some(superclass) => at = superclass,
-        }
+    if let Some(place) = method_in(tables, skip, class, name, desc) {
+        return Some(answer(tables, skip, class, place, name, desc));
+    }
+    let Some(above) = nearest(tables, skip, class, name, desc, listed) else {
+        return None;
+    };
+    match method_in(tables, skip, above, name, desc) {
+        None => None,
+        Some(place) => Some(answer(tables, skip, above, place, name, desc)),
     }
 }
 
@@ -137,13 +179,20 @@ fn overrides(
 }
 
 /// Whether another method that the class inherits comes from a subinterface of this interface.
-fn is_overridden(tables: &Tables, class: u32, interface: u32, name: &Name, desc: &Name) -> bool
+fn is_overridden(
+    tables: &Tables,
+    class: u32,
+    interface: u32,
+    name: &Name,
+    desc: &Name,
+    listed: &[u64],
+) -> bool
     requires indexed { IsIndexed tables.now }
     requires inside { class < length tables.now.classes }
     requires interface_inside { interface < length tables.now.classes }
+    requires covers { Covers tables.now.classes class (classes_at tables.now.method_classes name.now) listed.now }
     ensures { IsTrue result ↔ IsOverridden tables.now.classes name.now desc.now class interface }
 {
-    let listed = noted(&tables.method_classes, name);
     for other in listed {
         if overrides(tables, class, *other as u32, interface, name, desc) {
             return true;
@@ -154,26 +203,34 @@ fn is_overridden(tables: &Tables, class: u32, interface: u32, name: &Name, desc:
 
 /// Whether the class inherits a method with code of this superinterface, which no subinterface of it
 /// overrides.
-fn is_left(tables: &Tables, class: u32, interface: u32, name: &Name, desc: &Name) -> bool
+fn is_left(
+    tables: &Tables,
+    class: u32,
+    interface: u32,
+    name: &Name,
+    desc: &Name,
+    listed: &[u64],
+) -> bool
     requires indexed { IsIndexed tables.now }
     requires inside { class < length tables.now.classes }
     requires interface_inside { interface < length tables.now.classes }
+    requires covers { Covers tables.now.classes class (classes_at tables.now.method_classes name.now) listed.now }
     ensures { IsTrue result ↔ IsSomeLeft tables.now.classes name.now desc.now class interface }
 {
     is_candidate(tables, class, interface, name, desc)
-        && !is_overridden(tables, class, interface, name, desc)
+        && !is_overridden(tables, class, interface, name, desc, listed)
 }
 
 /// The first interface of which a method is left.
-fn first_left(tables: &Tables, class: u32, name: &Name, desc: &Name) -> Option<u32>
+fn first_left(tables: &Tables, class: u32, name: &Name, desc: &Name, listed: &[u64]) -> Option<u32>
     requires indexed { IsIndexed tables.now }
     requires inside { class < length tables.now.classes }
+    requires covers { Covers tables.now.classes class (classes_at tables.now.method_classes name.now) listed.now }
     ensures some { IfSome result (IsSomeLeft tables.now.classes name.now desc.now class) }
     ensures none { IfNone result ((i : ℕ) → IsSomeLeft tables.now.classes name.now desc.now class i → ⊥) }
 {
-    let listed = noted(&tables.method_classes, name);
     for interface in listed {
-        if is_left(tables, class, *interface as u32, name, desc) {
+        if is_left(tables, class, *interface as u32, name, desc, listed) {
             return Some(*interface as u32);
         }
     }
@@ -188,10 +245,12 @@ fn is_other_left(
     other: u32,
     name: &Name,
     desc: &Name,
+    listed: &[u64],
 ) -> bool
     requires indexed { IsIndexed tables.now }
     requires inside { class < length tables.now.classes }
     requires other_inside { other < length tables.now.classes }
+    requires covers { Covers tables.now.classes class (classes_at tables.now.method_classes name.now) listed.now }
     ensures left { IsTrue result → IsSomeLeft tables.now.classes name.now desc.now class other }
     ensures apart { IsTrue result → interface ≡ other → ⊥ }
     ensures same { result ≡ false → IsSomeLeft tables.now.classes name.now desc.now class other → other ≡ interface }
@@ -199,19 +258,26 @@ fn is_other_left(
     if other == interface {
         return false;
     }
-    is_left(tables, class, other, name, desc)
+    is_left(tables, class, other, name, desc, listed)
 }
 
 /// Whether a method of no other interface is left.
-fn is_alone(tables: &Tables, class: u32, interface: u32, name: &Name, desc: &Name) -> bool
+fn is_alone(
+    tables: &Tables,
+    class: u32,
+    interface: u32,
+    name: &Name,
+    desc: &Name,
+    listed: &[u64],
+) -> bool
     requires indexed { IsIndexed tables.now }
     requires inside { class < length tables.now.classes }
+    requires covers { Covers tables.now.classes class (classes_at tables.now.method_classes name.now) listed.now }
     ensures alone { IsTrue result → (i : ℕ) → IsSomeLeft tables.now.classes name.now desc.now class i → i ≡ interface }
     ensures others { result ≡ false → IsOtherLeft tables.now.classes name.now desc.now class interface }
 {
-    let listed = noted(&tables.method_classes, name);
     for other in listed {
-        if is_other_left(tables, class, interface, *other as u32, name, desc) {
+        if is_other_left(tables, class, interface, *other as u32, name, desc, listed) {
             return false;
         }
     }
@@ -219,16 +285,23 @@ fn is_alone(tables: &Tables, class: u32, interface: u32, name: &Name, desc: &Nam
 }
 
 /// The one method with code that the class inherits from its superinterfaces, where exactly one is left.
-fn default_method(tables: &Tables, class: u32, name: &Name, desc: &Name) -> Option<MethodId>
+fn default_method(
+    tables: &Tables,
+    class: u32,
+    name: &Name,
+    desc: &Name,
+    listed: &[u64],
+) -> Option<MethodId>
     requires indexed { IsIndexed tables.now }
     requires inside { class < length tables.now.classes }
+    requires covers { Covers tables.now.classes class (classes_at tables.now.method_classes name.now) listed.now }
     ensures some { IfSome result (λ m. FindsDefault tables.now.classes name.now desc.now class (Some m.0)) }
     ensures none { IfNone result (FindsDefault tables.now.classes name.now desc.now class None) }
 {
-    let Some(interface) = first_left(tables, class, name, desc) else {
+    let Some(interface) = first_left(tables, class, name, desc, listed) else {
         return None;
     };
-    if is_alone(tables, class, interface, name, desc) {
+    if is_alone(tables, class, interface, name, desc, listed) {
         left_method(tables, class, interface, name, desc)
     } else {
         None
@@ -261,12 +334,14 @@ pub fn find(tables: &Tables, skip: Skip, class: u32, name: &Name, desc: &Name) -
     requires inside { class < length tables.now.classes }
     ensures { Finds tables.now.classes skip name.now desc.now class result }
 {
-    if is_unknown(&tables.method_classes, name) {
+    let declaring = noted(&tables.method_classes, name);
+    if declaring.is_empty() {
         return MethodAt::Library;
     }
-    match class_search(tables, skip, class, name, desc) {
+    let listed = fewer(&tables.classes, class, declaring);
+    match class_search(tables, skip, class, name, desc, listed) {
         Some(found) => found,
-        None => match default_method(tables, class, name, desc) {
+        None => match default_method(tables, class, name, desc, listed) {
             Some(method) => MethodAt::Program(method),
             None => MethodAt::Library,
         },

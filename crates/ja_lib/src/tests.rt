@@ -34,7 +34,7 @@ fn broken_files(rt: HostRuntime) {
         b"[[row]]\nclass = ['A']\nmethod = 'm'\n[[row]]\nclass = ['A']\nmethod = 'm'\nflow = 'maybe'\n[[entry]]\n";
     let third: &[u8] =
         b"[[entry]]\nclass = 'A'\nmethod = 'm'\ndesc = '()V'\n[[entry]]\nclass = '*'\nstatic = true\nmethod = '*'\ndesc = '()V'\n[[entry]]\n";
-    let cases: [(&[u8], Option<TableFault>); 16] = [
+    let cases: [(&[u8], Option<TableFault>); 20] = [
         (b"# \xff", Some(TableFault::Text)),
         (b"row = ", Some(TableFault::Text)),
         (b"[[row]", Some(TableFault::Text)),
@@ -51,6 +51,22 @@ fn broken_files(rt: HostRuntime) {
         (b"row = [{}]\nentries = []", Some(TableFault::UnknownKey)),
         (second, Some(TableFault::BadRow { row: 1 })),
         (third, Some(TableFault::BadEntry { entry: 2 })),
+        (
+            b"row = [{ class = ['A'], method = 'm' }, { class = ['A'], method = 'm', sink = [-1] }]",
+            Some(TableFault::BadRow { row: 1 }),
+        ),
+        (
+            b"entry = [{ class = 'A', method = 'm', desc = '()V' }, { method = 'm', desc = '()V' }]",
+            Some(TableFault::BadEntry { entry: 1 }),
+        ),
+        (
+            b"entry = [{ class = 'A', method = 'm', desc = '()V' }, { class = 'A', desc = '()V' }]",
+            Some(TableFault::BadEntry { entry: 1 }),
+        ),
+        (
+            b"entry = [{ class = 'A', method = 'm', desc = '()V' }, { class = 'A', method = 'm', desc = '()V', marked = [-1] }]",
+            Some(TableFault::BadEntry { entry: 1 }),
+        ),
         (b"", None),
         (b"row = []\nentry = []", None),
         (

@@ -1,15 +1,17 @@
 use Rattle.std.proofs.Common.{ℕ, ◌<◌, ◌∷◌, [], length}
 use Rattle.std.specs.Prelude.{Some}
+use Rattle.ja_hier.specs.Index.{classes_at, Covers}
 use Rattle.ja_hier.specs.LookUps.{IsDeclaredAbove, FieldSearch}
 use Rattle.ja_supers.proofs.Ranks.{rank_of}
 use Rattle.ja_hier.proofs.fields.declared_field.Given as goal
 
-abbrev pub invariant-loop-place : goal.invariant-loop-place
-invariant-loop-place l = record {
+abbrev pub invariant-loop-field : goal.invariant-loop-field
+invariant-loop-field l = record {
   inside : l.at < length l.tables.classes;
+  covers : Covers l.tables.classes l.at (classes_at l.tables.field_classes l.name) l.listed;
   declared : IsDeclaredAbove l.tables.classes l.name l.desc l.at;
   finds : (f : ℕ) → FieldSearch l.tables.classes l.name l.desc (l.at ∷ []) (Some f) → FieldSearch l.tables.classes l.name l.desc (l.class ∷ []) (Some f);
 }
 
-abbrev pub decreases-loop-place : goal.decreases-loop-place
-decreases-loop-place l = rank_of l.tables.classes l.at
+abbrev pub decreases-loop-field : goal.decreases-loop-field
+decreases-loop-field l = rank_of l.tables.classes l.at

@@ -1,4 +1,5 @@
-use Rattle.std.proofs.Common.{◌≡◌, true}
+use Rattle.std.proofs.Common.{◌≡◌, ℕ, List, true, subst}
+use Rattle.std.specs.Prelude.{Contains}
 use Rattle.ja_hier.specs.LookUps.{IsDeclaredAbove, in_program, in_library, missing}
 use Rattle.ja_supers.proofs.Ranks.{rank_of, rank-falls}
 use Rattle.ja_hier.proofs.FieldWays.{finds-nothing}
@@ -22,3 +23,7 @@ returns-else-has_library_supertype c =
     missing
     (finds-nothing c.args.tables.now.classes c.args.name.now c.args.desc.now (rank_of c.args.tables.now.classes) (rank-falls c.args.tables.now.classes c.requires.indexed.valid.acyclic) c.args.class apart)
     (λ lib. let t : c.has_library_supertype.result ≡ true = c.has_library_supertype.ensures.1 lib in cc (t, c.if-has_library_supertype.false))
+
+pub fewer-listed-requires-clause-listed_inside : goal.fewer-listed-requires-clause-listed_inside
+fewer-listed-requires-clause-listed_inside c = λ d in'.
+    c.requires.indexed.fields.inside c.args.name.now d (subst (λ (xs : List ℕ). Contains xs d) c.noted-declaring.ensures in')

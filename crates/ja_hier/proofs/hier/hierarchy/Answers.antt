@@ -1,5 +1,4 @@
-use Rattle.std.proofs.Common.{List, subst}
-use Rattle.ja_ir.specs.declared.head.ClassHead.{ClassHead}
+use Rattle.std.proofs.Common.{subst}
 use Rattle.ja_hier.specs.Faults.{IsHierarchy}
 use Rattle.ja_hier.proofs.hier.hierarchy.Goals as goal
 

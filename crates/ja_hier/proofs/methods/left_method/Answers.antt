@@ -1,4 +1,3 @@
-use Rattle.std.proofs.Common.{◌<◌, length}
 use Rattle.ja_hier.proofs.MethodWays.{left-above}
 use Rattle.ja_supers.proofs.Places.{superinterface-target}
 use Rattle.ja_hier.proofs.methods.left_method.Goals as goal
