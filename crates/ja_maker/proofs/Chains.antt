@@ -5,8 +5,8 @@ use mathlib.Core.Path.{fun_ext}
 use Rattle.std.proofs.lemmas.List.{length-map}
 use Rattle.ja_attr.specs.Attribute.{code_bytes, attributes_bytes}
 use Rattle.ja_listing.specs.declared.item.Frame.{Frame}
-use Rattle.ja_maker.specs.Members.{Labelled, Range, place_of_label}
-use Rattle.ja_maker.specs.Assembled.{Pool, u2, u4, row_of, instruction_bytes, code_of, text_index, attributes_of}
+use Rattle.ja_assembly.specs.Members.{Labelled, Range, place_of_label}
+use Rattle.ja_assembly.specs.Assembled.{Pool, u2, u4, row_of, instruction_bytes, code_of, text_index, attributes_of}
 use Rattle.ja_maker.specs.Writing.{rows_in, content_bytes}
 
 module _ (o a b c d e f g : List ℕ) where

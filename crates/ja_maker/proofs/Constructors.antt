@@ -8,10 +8,8 @@ use Rattle.ja_class.specs.ClassFile.{member_bytes}
 use Rattle.ja_listing.specs.declared.item.MemberName.{MemberName}
 use Rattle.ja_listing.specs.declared.item.Operand.TheVariants.{Nothing, MethodName}
 use Rattle.ja_listing.specs.declared.item.Item.{Item}
-use Rattle.ja_maker.specs.Members.{Labelled, place_of_label}
-use Rattle.ja_maker.specs.Judging.{instructions_in}
-use Rattle.ja_maker.specs.Assembled.{Pool, u2, text_index, operand_bytes, instruction_bytes, code_of, method_info}
-use Rattle.ja_maker.specs.Writing.{ranges_in}
+use Rattle.ja_assembly.specs.Members.{Labelled, place_of_label, instructions_in, ranges_in}
+use Rattle.ja_assembly.specs.Assembled.{Pool, u2, text_index, operand_bytes, instruction_bytes, code_of, method_info}
 use Rattle.ja_maker.specs.Constructor.{initializer_code, initializer_frame, constructor_body}
 
 -- its code

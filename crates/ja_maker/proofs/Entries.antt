@@ -4,7 +4,7 @@ use Rattle.std.specs.List.{flat_map}
 use Rattle.std.proofs.lemmas.List.{append-nil, map-append}
 use Rattle.std.proofs.lemmas.Grind.{flat_map-append}
 use Rattle.ja_pool.specs.Entry.{Entry, spelling}
-use Rattle.ja_maker.proofs.Steps.{take_step}
+use Rattle.ja_assembly.proofs.Items.{take_step}
 
 step : {A : Type 0} (f : A → Entry) (xs : List A) (k : ℕ) (x : A) → slice_get xs k ≡ Some x
     → flat_map spelling (map f (take (k + 1) xs)) ≡ flat_map spelling (map f (take k xs)) ++ spelling (f x)

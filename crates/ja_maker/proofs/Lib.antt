@@ -1,12 +1,4 @@
-pub mod Methods
-pub mod Steps
-pub mod Judged
-pub mod Checks
-pub mod LabelPlaces
-pub mod Taken
-pub mod Asked
 pub mod Chains
 pub mod Constructors
 pub mod Entries
 pub mod Wholes
-pub mod ArgumentWords

@@ -1,21 +1,21 @@
 -- A whole class file, part by part.
-use Rattle.std.proofs.Common.{◌≡◌, ℕ, ◌+◌, ◌<◌, ◌≤◌, List, [], ◌∷◌, ◌++◌, length, map, take, refl, sym, ap, ◌∙◌, append_assoc, arith, suc, ◌⊎◌, inl, inr}
+use Rattle.std.proofs.Common.{◌≡◌, ℕ, ◌+◌, ◌<◌, List, [], ◌∷◌, ◌++◌, length, map, refl, sym, ap, ◌∙◌, append_assoc, arith, suc, inl, inr}
 use Rattle.std.specs.List.{flat_map}
 use Rattle.std.proofs.lemmas.List.{append-nil, length-map, take_all}
 use Rattle.std.proofs.lemmas.Grind.{flat_map-append}
-use Rattle.ja_pool.specs.Entry.{Entry, spelling as entry_bytes}
+use Rattle.ja_pool.specs.Entry.{spelling as entry_bytes}
 use Rattle.ja_pool.specs.Table.{entries_from}
 use Rattle.ja_pool.specs.Pool.{table_of}
 use Rattle.ja_class.specs.ClassFile.{MemberInfo, member_bytes, spelling}
 use Rattle.ja_listing.specs.Listed.{Listed}
-use Rattle.ja_maker.specs.declared.key.Key.{Key}
-use Rattle.ja_maker.specs.declared.key.Key.TheVariants as keys
-use Rattle.ja_maker.specs.declared.wants.Wants.{Wants}
-use Rattle.ja_maker.specs.Members.{fields, methods, items_of_class}
-use Rattle.ja_maker.specs.Wanted.{pool_strings, pool_keys, entries}
-use Rattle.ja_maker.specs.Unwritable.{CannotBeWritten, IsTooMuch, before, expansion}
-use Rattle.ja_maker.specs.Judging.{IsAllowed}
-use Rattle.ja_maker.specs.Assembled.{Pool, u2, u4, class_index, string_entry, key_entry, entries_of, field_info, method_info, pool_for, file_in, file_of}
+use Rattle.ja_assembly.specs.declared.key.Key.{Key}
+use Rattle.ja_assembly.specs.declared.key.Key.TheVariants as keys
+use Rattle.ja_judge.specs.declared.wants.Wants.{Wants}
+use Rattle.ja_assembly.specs.Members.{fields, methods, items_of_class}
+use Rattle.ja_assembly.specs.Wanted.{entries}
+use Rattle.ja_assembly.specs.Unwritable.{CannotBeWritten, before, expansion}
+use Rattle.ja_judge.specs.Judging.{IsAllowed}
+use Rattle.ja_assembly.specs.Assembled.{Pool, u2, u4, class_index, string_entry, key_entry, entries_of, field_info, method_info, pool_for, file_in}
 use Rattle.ja_maker.specs.Writing.{pool_in, IsFew, members_bytes}
 
 -- no entry takes two indices

@@ -2,9 +2,7 @@
 use Rattle.std.specs.Prelude.{ℕ, List, ◌++◌, drop, codes, Some}
 use Rattle.ja_listing.specs.declared.item.Frame.{Frame}
 use Rattle.ja_listing.specs.declared.item.Item.{Item}
-use Rattle.ja_maker.specs.Members.{Member, Labelled, Body, instructions, plain_number, initializer}
-use Rattle.ja_maker.specs.Judging.{instructions_in}
-use Rattle.ja_maker.specs.Writing.{ranges_in}
+use Rattle.ja_assembly.specs.Members.{Member, Labelled, Body, instructions, plain_number, initializer, instructions_in, ranges_in}
 
 -- its instructions
 abbrev pub initializer_code : List ℕ → List Labelled

@@ -1,9 +1,2 @@
-pub mod Members
-pub mod Wanted
-pub mod Unwritable
-pub mod Judging
-pub mod Assembled
 pub mod Writing
-pub mod Written
 pub mod Constructor
-pub mod Arguments

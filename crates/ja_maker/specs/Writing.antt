@@ -4,10 +4,9 @@ use Rattle.std.specs.List.{flat_map}
 use Rattle.ja_attr.specs.Attribute.{handler_bytes}
 use Rattle.ja_class.specs.ClassFile.{MemberInfo, member_bytes}
 use Rattle.ja_listing.specs.declared.item.Frame.{Frame}
-use Rattle.ja_listing.specs.declared.item.Item.{Item}
-use Rattle.ja_maker.specs.declared.wants.Wants.{Wants}
-use Rattle.ja_maker.specs.Members.{Range, expanded, ranges}
-use Rattle.ja_maker.specs.Assembled.{Pool, u2, u4, row_of}
+use Rattle.ja_judge.specs.declared.wants.Wants.{Wants}
+use Rattle.ja_assembly.specs.Members.{Range}
+use Rattle.ja_assembly.specs.Assembled.{Pool, u2, u4, row_of}
 
 -- the pool of what is asked for
 abbrev pub pool_in : Wants → Pool
@@ -16,10 +15,6 @@ pool_in w = record { strings = w.strings.keys; keys = w.keys.keys }
 -- the entries have indices of two bytes
 abbrev pub IsFew : Wants → Type 0
 IsFew w = length w.strings.keys + length w.keys.keys ≤ 65534
-
--- the entries of the exception table up to the next method, where a class has this superclass
-abbrev pub ranges_in : List ℕ → List Item → List Range
-ranges_in superclass items = ranges (flat_map (expanded superclass) items)
 
 -- their bytes
 abbrev pub rows_in : Pool → (List ℕ → Option ℕ) → List Range → List ℕ

@@ -4,18 +4,17 @@ ghost use Rattle.std.specs.Prelude.{◌≡◌, ◌++◌, ℕ, List, length, map,
 ghost use Rattle.std.specs.List.{flat_map};
 ghost use Rattle.ja_attr.specs.Attribute.{attributes_bytes, code_bytes};
 ghost use Rattle.ja_class.specs.ClassFile.{member_bytes};
-ghost use Rattle.ja_maker.specs.Members.{expanded, fields};
-ghost use Rattle.ja_maker.specs.Judging.{instructions_in};
-ghost use Rattle.ja_maker.specs.Assembled.{u2, text_index, code_of, attributes_of, field_info, method_info};
-ghost use Rattle.ja_maker.specs.Writing.{pool_in, IsFew, ranges_in};
+ghost use Rattle.ja_assembly.specs.Members.{expanded, fields, instructions_in, ranges_in};
+ghost use Rattle.ja_assembly.specs.Assembled.{u2, text_index, code_of, attributes_of, field_info, method_info};
+ghost use Rattle.ja_maker.specs.Writing.{pool_in, IsFew};
 
 use crate::code_bytes::put_instructions;
-use crate::labels::{labels_of, parted, place_behind};
 use crate::method_bytes::{content_of, put_code};
 use crate::pool_bytes::text_index;
 use crate::put::put_u2;
-use crate::wants::Wants;
+use ja_assembly::{labels_of, parted, place_behind};
 use ja_base::{Bytes, Memory, Name};
+use ja_judge::Wants;
 use ja_listing::{Frame, Item, Number};
 use std::alloc::Global;
 

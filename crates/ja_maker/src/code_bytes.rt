@@ -2,21 +2,19 @@
 
 ghost use Rattle.std.specs.Prelude.{◌≡◌, ◌+◌, ◌++◌, ◌∷◌, [], ℕ, List, OnOk, IfOk};
 ghost use Rattle.ja_code.specs.Opcode.{form_at};
-ghost use Rattle.ja_maker.specs.Members.{unsigned};
-ghost use Rattle.ja_maker.specs.Wanted.{method_tag};
-ghost use Rattle.ja_maker.specs.Judging.{places, instructions_in};
-ghost use Rattle.ja_maker.specs.Assembled.{u1, u2, place_or_0, constant_bytes, branch_bytes, padding_bytes, operand_bytes, instruction_bytes, member_index};
+ghost use Rattle.ja_assembly.specs.Members.{unsigned, instructions_in};
+ghost use Rattle.ja_assembly.specs.Wanted.{method_tag};
+ghost use Rattle.ja_assembly.specs.Labels.{places};
+ghost use Rattle.ja_assembly.specs.Assembled.{u1, u2, place_or_0, constant_bytes, branch_bytes, padding_bytes, operand_bytes, instruction_bytes, member_index};
 ghost use Rattle.ja_maker.specs.Writing.{pool_in, IsFew};
 
-use crate::argument::argument_words;
-use crate::ask::{FIELD, method_tag};
-use crate::labels::{parted, place_behind, size_of};
 use crate::pool_bytes::{class_index, member_index, string_index};
 use crate::put::{put_u1, put_u2, put_u4};
-use crate::wants::Wants;
 use indexmap::IndexMap;
+use ja_assembly::{FIELD, argument_words, method_tag, parted, place_behind, size_of};
 use ja_base::{Bytes, Memory, Name};
 use ja_code::{Form, form_of};
+use ja_judge::Wants;
 use ja_listing::{Item, MemberName, Number, Operand};
 use std::alloc::Global;
 

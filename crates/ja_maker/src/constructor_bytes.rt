@@ -4,19 +4,18 @@ ghost use Rattle.std.specs.Prelude.{◌≡◌, ◌++◌, ℕ, List, length, map,
 ghost use Rattle.std.specs.List.{flat_map};
 ghost use Rattle.ja_attr.specs.Attribute.{code_bytes};
 ghost use Rattle.ja_class.specs.ClassFile.{member_bytes};
-ghost use Rattle.ja_maker.specs.Members.{expanded, methods};
-ghost use Rattle.ja_maker.specs.Judging.{places, instructions_in};
-ghost use Rattle.ja_maker.specs.Assembled.{instruction_bytes, code_of, method_info};
-ghost use Rattle.ja_maker.specs.Writing.{pool_in, IsFew, ranges_in};
+ghost use Rattle.ja_assembly.specs.Members.{expanded, methods, instructions_in, ranges_in};
+ghost use Rattle.ja_assembly.specs.Labels.{places};
+ghost use Rattle.ja_assembly.specs.Assembled.{instruction_bytes, code_of, method_info};
+ghost use Rattle.ja_maker.specs.Writing.{pool_in, IsFew};
 ghost use Rattle.ja_maker.specs.Constructor.{initializer_code, initializer_frame, constructor_body};
 
-use crate::ask::constructor_of;
 use crate::class_bytes::{put_front, put_method};
 use crate::code_bytes::{Labels, put_instruction, put_instructions};
-use crate::labels::{labels_of, parted, place_behind};
 use crate::method_bytes::{content_of, put_code};
-use crate::wants::Wants;
+use ja_assembly::{constructor_of, labels_of, parted, place_behind};
 use ja_base::{Bytes, Memory, Name};
+use ja_judge::Wants;
 use ja_listing::{Frame, Item, Number, Operand};
 use std::alloc::Global;
 

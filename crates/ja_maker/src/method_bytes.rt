@@ -2,16 +2,17 @@
 
 ghost use Rattle.std.specs.Prelude.{◌≡◌, ◌++◌, ◌∷◌, [], ℕ, List, codes, length, OnOk, IfOk};
 ghost use Rattle.ja_attr.specs.Attribute.{attributes_bytes, handler_bytes};
-ghost use Rattle.ja_maker.specs.Judging.{places};
-ghost use Rattle.ja_maker.specs.Assembled.{u2, catch_index, row_of, text_index};
-ghost use Rattle.ja_maker.specs.Writing.{pool_in, IsFew, ranges_in, rows_in, content_bytes};
+ghost use Rattle.ja_assembly.specs.Labels.{places};
+ghost use Rattle.ja_assembly.specs.Assembled.{u2, catch_index, row_of, text_index};
+ghost use Rattle.ja_assembly.specs.Members.{ranges_in};
+ghost use Rattle.ja_maker.specs.Writing.{pool_in, IsFew, rows_in, content_bytes};
 
 use crate::code_bytes::{Labels, place_or_0};
-use crate::labels::{parted, place_behind};
 use crate::pool_bytes::{class_index, text_index};
 use crate::put::{put_bytes, put_u2, put_u4};
-use crate::wants::Wants;
+use ja_assembly::{parted, place_behind};
 use ja_base::{Bytes, Memory, Name};
+use ja_judge::Wants;
 use ja_listing::{Frame, Item};
 use std::alloc::Global;
 

@@ -3,12 +3,12 @@
 ghost use Rattle.std.specs.Prelude.{◌≡◌, ◌++◌, map, OnOk};
 ghost use Rattle.std.specs.List.{flat_map};
 ghost use Rattle.ja_pool.specs.Entry.{spelling};
-ghost use Rattle.ja_maker.specs.Assembled.{string_entry, key_entry};
+ghost use Rattle.ja_assembly.specs.Assembled.{string_entry, key_entry};
 ghost use Rattle.ja_maker.specs.Writing.{pool_in, IsFew};
 
 use crate::pool_bytes::{put_key, put_string};
-use crate::wants::Wants;
 use ja_base::{Bytes, Memory};
+use ja_judge::Wants;
 use std::alloc::Global;
 
 /// The strings of a pool.

@@ -1,7 +1,7 @@
 //! Numbers as bytes, the highest byte first.
 
 ghost use Rattle.std.specs.Prelude.{◌≡◌, ◌++◌, OnOk};
-ghost use Rattle.ja_maker.specs.Assembled.{u1, u2, u4};
+ghost use Rattle.ja_assembly.specs.Assembled.{u1, u2, u4};
 
 use ja_base::{Bytes, Memory};
 

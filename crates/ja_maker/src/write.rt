@@ -6,20 +6,21 @@ ghost use Rattle.ja_pool.specs.Entry.{spelling as entry_bytes};
 ghost use Rattle.ja_pool.specs.Pool.{table_of};
 ghost use Rattle.ja_class.specs.ClassFile.{spelling};
 ghost use Rattle.ja_listing.specs.Listed.{Listed};
-ghost use Rattle.ja_maker.specs.Members.{expanded, fields, methods};
-ghost use Rattle.ja_maker.specs.Unwritable.{IsWritable, IsFirstUnwritable, IsCause, Passes, Refuses};
-ghost use Rattle.ja_maker.specs.Judging.{IsAllowed};
-ghost use Rattle.ja_maker.specs.Assembled.{u2, u4, class_index, entries_of, field_info, method_info, file_in, file_of};
+ghost use Rattle.ja_assembly.specs.Members.{expanded, fields, methods};
+ghost use Rattle.ja_assembly.specs.Unwritable.{IsWritable, IsFirstUnwritable, IsCause, Passes, Refuses};
+ghost use Rattle.ja_judge.specs.Judging.{IsAllowed};
+ghost use Rattle.ja_assembly.specs.Assembled.{u2, u4, class_index, entries_of, field_info, method_info, file_in, file_of};
+ghost use Rattle.ja_assembly.specs.Written.{IsWritten};
 ghost use Rattle.ja_maker.specs.Writing.{pool_in, IsFew, members_bytes};
 
 use crate::class_bytes::{count_fields, put_fields};
 use crate::constructor_bytes::{count_methods, put_methods};
-use crate::judge::judge;
 use crate::pool_bytes::class_index;
 use crate::pool_lists::{put_keys, put_strings};
 use crate::put::{put_u2, put_u4};
-use crate::wants::Wants;
+use ja_assembly::law_written;
 use ja_base::{Bytes, Memory, Name};
+use ja_judge::{Wants, judge};
 use ja_listing::{Head, Item, Listing, MakeFault};
 use std::alloc::Global;
 
@@ -139,6 +140,8 @@ fn bytes_of(alloc: Global, pool: &Wants, listing: &Listing) -> Result<Bytes, Mak
 pub fn write_class(alloc: Global, listing: &Listing) -> Result<Bytes, MakeFault>
     // The bytes spell the class file of the listed class.
     ensures written { IfOk result (λ bytes. bytes ≡ spelling (file_of listing.now)) }
+    // They are a class file of the profile, which says what is listed.
+    ensures class_file { IfOk result (IsWritten listing.now) }
     // Where there is no error, each item can be written.
     ensures ok { OnOk result (IsWritable listing.now) }
     // Where each item can be written, there is no error, unless memory runs out.
@@ -148,6 +151,7 @@ pub fn write_class(alloc: Global, listing: &Listing) -> Result<Bytes, MakeFault>
     // The first item that cannot be written is the error, unless memory runs out.
     ensures first { (n : ℕ) → IsFirstUnwritable listing.now n → Refuses n result }
 {
+    law_written();
     match judge(alloc, listing) {
         Ok(pool) => bytes_of(alloc, &pool, listing),
         Err(fault) => Err(fault),

@@ -1,6 +1,6 @@
 use Rattle.std.proofs.Common.{◌≡◌, suc, length, refl, arith}
 use Rattle.std.specs.List.{flat_map}
-use Rattle.ja_maker.specs.Members.{expanded, fields}
+use Rattle.ja_assembly.specs.Members.{expanded, fields}
 use Rattle.ja_maker.proofs.class_bytes.count_fields.Goals as goal
 
 pub returns : goal.returns

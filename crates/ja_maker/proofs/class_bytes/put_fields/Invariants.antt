@@ -1,8 +1,8 @@
 use Rattle.std.proofs.Common.{◌≡◌, ℕ, ◌++◌, List, length, map}
 use Rattle.std.specs.List.{flat_map}
 use Rattle.ja_class.specs.ClassFile.{member_bytes}
-use Rattle.ja_maker.specs.Members.{expanded, fields}
-use Rattle.ja_maker.specs.Assembled.{field_info}
+use Rattle.ja_assembly.specs.Members.{expanded, fields}
+use Rattle.ja_assembly.specs.Assembled.{field_info}
 use Rattle.ja_maker.specs.Writing.{pool_in}
 use Rattle.ja_maker.proofs.class_bytes.put_fields.Given as goal
 

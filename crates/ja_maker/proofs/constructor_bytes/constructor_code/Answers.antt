@@ -1,4 +1,5 @@
-use Rattle.ja_maker.specs.Judging.{places, instructions_in}
+use Rattle.ja_assembly.specs.Labels.{places}
+use Rattle.ja_assembly.specs.Members.{instructions_in}
 use Rattle.ja_maker.specs.Writing.{pool_in}
 use Rattle.ja_maker.proofs.Constructors.{constructor_is}
 use Rattle.ja_maker.proofs.constructor_bytes.constructor_code.Goals as goal

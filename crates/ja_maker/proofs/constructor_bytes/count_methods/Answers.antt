@@ -1,6 +1,6 @@
 use Rattle.std.proofs.Common.{◌≡◌, suc, length, refl, arith}
 use Rattle.std.specs.List.{flat_map}
-use Rattle.ja_maker.specs.Members.{expanded, methods}
+use Rattle.ja_assembly.specs.Members.{expanded, methods}
 use Rattle.ja_maker.proofs.constructor_bytes.count_methods.Goals as goal
 
 pub returns : goal.returns

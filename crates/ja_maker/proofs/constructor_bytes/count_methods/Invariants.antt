@@ -1,6 +1,6 @@
 use Rattle.std.proofs.Common.{◌≡◌, ℕ, ◌+◌, List, length}
 use Rattle.std.specs.List.{flat_map}
-use Rattle.ja_maker.specs.Members.{expanded, methods}
+use Rattle.ja_assembly.specs.Members.{expanded, methods}
 use Rattle.ja_maker.proofs.constructor_bytes.count_methods.Given as goal
 
 -- those so far and those of the rest are all

@@ -1,5 +1,5 @@
 use Rattle.std.proofs.Common.{◌≡◌, suc, length, refl, arith}
-use Rattle.ja_maker.specs.Writing.{ranges_in}
+use Rattle.ja_assembly.specs.Members.{ranges_in}
 use Rattle.ja_maker.proofs.method_bytes.count_rows.Goals as goal
 
 pub returns-in-Method : goal.returns-in-Method

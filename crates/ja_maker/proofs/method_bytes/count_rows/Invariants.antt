@@ -1,5 +1,5 @@
 use Rattle.std.proofs.Common.{◌≡◌, ℕ, ◌+◌, List, length}
-use Rattle.ja_maker.specs.Writing.{ranges_in}
+use Rattle.ja_assembly.specs.Members.{ranges_in}
 use Rattle.ja_maker.proofs.method_bytes.count_rows.Given as goal
 
 -- those so far and those of the rest are all

@@ -1,7 +1,7 @@
 use Rattle.std.proofs.Common.{◌≡◌, ◌-◌, ◌≤◌, ◌++◌, length, take, map}
 use Rattle.std.specs.List.{flat_map}
 use Rattle.ja_pool.specs.Entry.{spelling}
-use Rattle.ja_maker.specs.Assembled.{key_entry}
+use Rattle.ja_assembly.specs.Assembled.{key_entry}
 use Rattle.ja_maker.specs.Writing.{pool_in}
 use Rattle.ja_maker.proofs.pool_lists.put_keys.Given as goal
 

@@ -1,4 +1,3 @@
-use Rattle.std.proofs.Common.{◌∙◌, sym, ap, ◌+◌, length}
 use Rattle.ja_maker.specs.Writing.{pool_in}
 use Rattle.ja_maker.proofs.Wholes.{count_is}
 use Rattle.ja_maker.proofs.write.count_entries.Goals as goal

@@ -1,4 +1,3 @@
-use Rattle.std.proofs.Common.{◌∙◌, sym}
 use Rattle.ja_maker.specs.Writing.{pool_in}
 use Rattle.ja_maker.proofs.Wholes.{whole_is}
 use Rattle.ja_maker.proofs.write.put_class.Goals as goal

@@ -1,0 +1,9 @@
+pub mod Members
+pub mod Wanted
+pub mod Unwritable
+pub mod Assembled
+pub mod Written
+pub mod Arguments
+pub mod Labels
+pub mod Right
+pub mod ReadBack

@@ -1,0 +1,39 @@
+//! References to members in a constant pool (JVM specification 4.4.2).
+
+ghost use Rattle.std.specs.Prelude.{◌≡◌, codes, IfOk};
+ghost use Rattle.ja_assembly.specs.Wanted.{method_tag};
+
+use ja_base::{Memory, Name};
+use ja_code::Form;
+use ja_listing::MemberName;
+use std::alloc::Global;
+
+/// The tag of a reference to a field.
+pub const FIELD: u8 = 9;
+
+/// The tag of a reference to a method of a class.
+pub const METHOD: u8 = 10;
+
+/// The tag of a reference to a method of an interface.
+const INTERFACE_METHOD: u8 = 11;
+
+/// The tag of the entries that name the methods of an opcode.
+pub fn method_tag(form: Option<Form>) -> u8
+    ensures { result ≡ method_tag form }
+{
+    match form {
+        Some(Form::Interface) => INTERFACE_METHOD,
+        _ => METHOD,
+    }
+}
+
+/// The constructor of a class without parameters.
+pub fn constructor_of(alloc: Global, class: &Name) -> Result<MemberName, Memory>
+    ensures { IfOk result (λ member. member ≡ record { class = class.now; name = codes "<init>"; desc = codes "()V" }) }
+{
+    Ok(MemberName {
+        class: class.copy(alloc)?,
+        name: Name::of(alloc, b"<init>")?,
+        desc: Name::of(alloc, b"()V")?,
+    })
+}

@@ -1,5 +1,0 @@
-use Rattle.ja_maker.proofs.ArgumentWords.{words_are}
-use Rattle.ja_maker.proofs.law.law_argument_words.Goals as goal
-
-pub returns : goal.returns
-returns c = words_are
