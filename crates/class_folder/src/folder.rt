@@ -5,7 +5,7 @@ use ja_base::{File, Memory, Names};
 use ja_class::{Class, ClassFault, read_class};
 use ja_ir::Program;
 use ja_lib::Table;
-use ja_lower::{LowerFault, lower};
+use ja_lower::{LowerFault, lower, lower_in_pieces};
 use std::alloc::Global;
 use std::thread::Threads;
 
@@ -84,13 +84,34 @@ impl ClassFolder {
     /// The program of the classes. Where they are too many to be lowered, the answer is want of memory.
     pub fn lower<R: Threads + Sync>(
         &self,
-        _rt: &R,
+        rt: &R,
         alloc: Global,
         table: &Table,
     ) -> Result<Program, LowerFault> {
         if !are_few(self.classes.as_slice()) {
             return Err(LowerFault::Memory);
         }
-        lower(alloc, &self.names, self.classes.as_slice(), table)
+        lower(rt, alloc, &self.names, self.classes.as_slice(), table)
+    }
+
+    /// The same, where a thread of its own lowers `least` methods or more.
+    pub fn lower_in_pieces<R: Threads + Sync>(
+        &self,
+        rt: &R,
+        alloc: Global,
+        table: &Table,
+        least: usize,
+    ) -> Result<Program, LowerFault> {
+        if !are_few(self.classes.as_slice()) {
+            return Err(LowerFault::Memory);
+        }
+        lower_in_pieces(
+            rt,
+            alloc,
+            &self.names,
+            self.classes.as_slice(),
+            table,
+            least,
+        )
     }
 }

@@ -37,7 +37,7 @@ hierarchy-refused files classes heads fault NoMemory e is said = tt
 -- the first method that is refused refuses the classes
 pub method-refused : MethodOrRefusal → (files : List (List ℕ)) (rows : List TableRow) (classes : List ClassSpelled) (c k : ℕ) (methods : List Method) (class : ClassSpelled) (file : List ℕ) (fault : MethodFault) (found : LowerFault)
     → IsHierarchy (heads_of classes) → MethodsUpTo (heads_of classes) rows classes c k methods → slice_get classes c ≡ Some class → slice_get files c ≡ Some file
-    → (fault ≡ faults.Memory) ⊎ IsRefused (heads_of classes) class k fault → IsOrMemory (method_refusal file k fault) found → IsLowerFault files classes found
+    → (fault ≡ faults.Memory) ⊎ IsRefused (heads_of classes) class c k fault → IsOrMemory (method_refusal file k fault) found → IsLowerFault files classes found
 method-refused exclude files rows classes c k methods class file fault (Refused refusal) valid up at file-at (inl lost) said = absurd (no-memory file k fault refusal said lost)
 method-refused exclude files rows classes c k methods class file fault (Refused refusal) valid up at file-at (inr refused) said =
     of_method c k valid (record { class = class; at = at; file = file; file_at = file-at; fault = fault; refused = refused; is = said }) (none-refused exclude files rows classes c k methods up)

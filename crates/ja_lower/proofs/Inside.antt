@@ -6,6 +6,6 @@ use Rattle.ja_class.specs.Meaning.{ClassSpelled}
 use Rattle.ja_methods.specs.declared.fault.MethodFault.{MethodFault}
 use Rattle.ja_methods.specs.Refusal.{IsRefused, native, coded}
 
-pub refused-inside : (heads : List ClassHead) (class : ClassSpelled) (m : ℕ) (fault : MethodFault) → IsRefused heads class m fault → m < length class.head.methods
-refused-inside heads class m fault (native {head = h} e a) = slice_get_within class.head.methods m h e
-refused-inside heads class m fault (coded {head = h} e a r) = slice_get_within class.head.methods m h e
+pub refused-inside : (heads : List ClassHead) (class : ClassSpelled) (c m : ℕ) (fault : MethodFault) → IsRefused heads class c m fault → m < length class.head.methods
+refused-inside heads class c m fault (native {head = h} e a) = slice_get_within class.head.methods m h e
+refused-inside heads class c m fault (coded {head = h} e a r) = slice_get_within class.head.methods m h e

@@ -1,6 +1,11 @@
 pub mod Inside
 pub mod UpTo
+pub mod Answered
+pub mod Sent
 pub mod Faults
 pub mod Described
 pub mod WholeProgram
 pub mod Named
+pub mod OneList
+pub mod OneProgram
+pub mod OneVerdict

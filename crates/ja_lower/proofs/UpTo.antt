@@ -127,7 +127,7 @@ no-memory file k fault refusal e same = let f : None ≡ Some refusal = ap (meth
 pub none-refused : MethodOrRefusal → (files : List (List ℕ)) (rows : List TableRow) (classes : List ClassSpelled) (c k : ℕ) (methods : List Method) → MethodsUpTo (heads_of classes) rows classes c k methods
     → (d j : ℕ) (other : Refusal) → StandsBefore d j c k → IsMethodRefused files classes d j other → ⊥
 none-refused exclude files rows classes c k methods up d j other before r =
-    let x : IsAmong rows classes methods d j r.class = among-up-to rows classes c k methods up d j r.class before r.at (refused-inside (heads_of classes) r.class j r.fault r.refused) in
+    let x : IsAmong rows classes methods d j r.class = among-up-to rows classes c k methods up d j r.class before r.at (refused-inside (heads_of classes) r.class d j r.fault r.refused) in
     exclude (heads_of classes) rows r.class d j x.method r.fault x.is r.refused
 
 -- ---- sites

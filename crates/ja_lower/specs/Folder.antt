@@ -1,6 +1,6 @@
 -- Which files of a folder are read, and which folders are refused by the names and lengths of their files alone.
 use Rattle.std.specs.Prelude.{◌≡◌, ℕ, suc, ◌<◌, ◌≤◌, ◌⊎◌, ◌||◌, Bool, true, List, [], ◌∷◌, Some, IsPermutation, IsSorted, bytes_eq, codes, filter, length, map, nat_eq, slice_get, sum_by, take}
-use Rattle.std.specs.List.{ends_with, list_any}
+use Rattle.std.specs.List.{IsDistinct, ends_with, list_any}
 use Rattle.std.specs.Ordering.{nat_cmp}
 use Rattle.std.specs.Cmp.Lexicographic.{slice_cmp}
 use Rattle.ja_base.specs.declared.file.File.{File}
@@ -11,6 +11,10 @@ use Rattle.ja_supers.specs.Faults.{IsFirst, IsNowhere}
 -- the files' names, in order
 abbrev pub names_of : List File → List (List ℕ)
 names_of files = map (λ (file : File). file.name) files
+
+-- no two files have one name, as in every folder
+abbrev pub AreNamedApart : List File → Type 0
+AreNamedApart files = IsDistinct bytes_eq (names_of files)
 
 -- the files in the order of their names, which is that of their bytes
 pub record AreInOrder (files ordered : List File) : Type 0 where

@@ -3,3 +3,5 @@ pub mod Refusals
 pub mod Program
 pub mod Steps
 pub mod Accept
+pub mod Places
+pub mod Answers

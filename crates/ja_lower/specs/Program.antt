@@ -85,7 +85,7 @@ pub record IsMethodRefused (files : List (List ℕ)) (classes : List ClassSpelle
   pub file : List ℕ
   pub file_at : slice_get files c ≡ Some file
   pub fault : MethodFault
-  pub refused : IsRefused (heads_of classes) class k fault
+  pub refused : IsRefused (heads_of classes) class c k fault
   pub is : method_refusal file k fault ≡ Some refusal
 
 -- method j of class d stands before method k of class c

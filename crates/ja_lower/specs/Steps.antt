@@ -19,4 +19,4 @@ pub record AreUpTo (rows : List TableRow) (classes : List ClassSpelled) (c k : �
 abbrev pub MethodOrRefusal : Type 0
 MethodOrRefusal =
     (heads : List ClassHead) (rows : List TableRow) (class : ClassSpelled) (c m : ℕ) (method : Method) (fault : MethodFault)
-    → IsMethodOf heads rows class c m method → IsRefused heads class m fault → ⊥
+    → IsMethodOf heads rows class c m method → IsRefused heads class c m fault → ⊥

@@ -1,20 +1,23 @@
-ghost use Rattle.std.specs.Prelude.{◌≡◌, ◌++◌, ◌∷◌, ◌<◌, ◌≤◌, ◌^◌, [], suc, zero, Some, IfOk, IfErr, OnOk, length, map, slice_get, sum_by};
+ghost use Rattle.std.specs.Prelude.{◌≡◌, ◌++◌, ◌∷◌, ◌<◌, ◌≤◌, ◌^◌, [], suc, IfOk, IfErr, OnOk, length, map, sum_by};
 ghost use Rattle.ja_hier.specs.declared.starts.Member.TheVariants.{Method as OfMethods};
 ghost use Rattle.ja_hier.specs.Faults.{IsHierarchy};
 ghost use Rattle.ja_hier.specs.Members.{count_of};
-ghost use Rattle.ja_class.specs.Meaning.{ClassSpelled};
+ghost use Rattle.ja_lower.specs.Answers.{IsAnswer};
 ghost use Rattle.ja_lower.specs.Program.{AreMethods, AreSites, IsLowerFault, heads_of, site_of};
 ghost use Rattle.ja_lower.specs.Steps.{AreUpTo};
 
 use crate::LowerFault;
+use crate::answer::{Answer, answers_of};
+use crate::place::places_of;
 use crate::refusal::method_fault;
-use ja_base::{ClassId, Memory, MethodId, Names, Numbers, Seq};
+use ja_base::{Memory, MethodId, Names, Numbers, Seq};
 use ja_class::Class;
 use ja_hier::Hier;
 use ja_ir::{Methods, Site, Sites};
 use ja_lib::Table;
-use ja_methods::{Lowered, MethodSite, law_one_method, lower_method};
+use ja_methods::{Lowered, MethodSite, law_one_method};
 use std::alloc::Global;
+use std::thread::Threads;
 
 /// The methods of a program, and its sink calls.
 #[derive(Drop)]
@@ -23,13 +26,16 @@ pub(crate) struct Code {
     pub sites: Sites,
 }
 
-/// The methods of the classes and their sink calls, in order, or the first refusal.
-pub(crate) fn code_of(
+/// The methods of the classes and their sink calls, in order, or the first refusal. A thread of its own takes
+/// `least` methods or more.
+pub(crate) fn code_of<R: Threads + Sync>(
+    rt: &R,
     alloc: Global,
     files: &Names,
     hier: &Hier,
     classes: &[Class],
     table: &Table,
+    least: usize,
 ) -> Result<Code, LowerFault>
     requires heads { hier.now ≡ heads_of classes.now }
     requires valid { IsHierarchy (heads_of classes.now) }
@@ -40,68 +46,39 @@ pub(crate) fn code_of(
     ensures sites { IfOk result (λ code. AreSites (heads_of classes.now) code.methods code.sites) }
     ensures refused { IfErr result (IsLowerFault files.now classes.now) }
 {
+    let places = places_of(alloc, classes)?;
+    let answers = answers_of(rt, alloc, hier, classes, table, &places, least)?;
     let mut code = Code {
         methods: Seq::new(alloc),
         sites: Seq::new(alloc),
     };
-    for c in 0..classes.len() {
-        add_class(alloc, &mut code, files, hier, classes, c as u32, table)?;
+    for answer in answers {
+        add_answer(alloc, &mut code, files, classes, table, answer)?;
     }
     Ok(code)
 }
 
-/// Adds the methods of a class and their sink calls.
-fn add_class(
+/// Adds the method of an answer and its sink calls.
+fn add_answer(
     alloc: Global,
     code: &mut Code,
     files: &Names,
-    hier: &Hier,
     classes: &[Class],
-    c: u32,
     table: &Table,
+    answer: Answer,
 ) -> Result<(), LowerFault>
-    requires heads { hier.now ≡ heads_of classes.now }
     requires valid { IsHierarchy (heads_of classes.now) }
     requires files { length files.now ≡ length classes.now }
-    requires few { length classes.now ≤ 2 ^ 26 }
     requires numbered { sum_by (count_of OfMethods) (heads_of classes.now) ≤ 2 ^ 26 }
-    requires inside { c < length classes.now }
-    requires so_far { AreUpTo table.now.rows classes.now c zero code.old.methods code.old.sites }
-    ensures added { OnOk result (AreUpTo table.now.rows classes.now (suc c) zero code.new.methods code.new.sites) }
-    ensures refused { IfErr result (IsLowerFault files.now classes.now) }
-{
-    let class = &classes[c as usize];
-    for m in 0..class.head.methods.len() {
-        add_method(alloc, code, files, hier, classes, c, m as u32, table)?;
-    }
-    Ok(())
-}
-
-/// Adds a method of a class and its sink calls.
-fn add_method(
-    alloc: Global,
-    code: &mut Code,
-    files: &Names,
-    hier: &Hier,
-    classes: &[Class],
-    c: u32,
-    m: u32,
-    table: &Table,
-) -> Result<(), LowerFault>
-    requires heads { hier.now ≡ heads_of classes.now }
-    requires valid { IsHierarchy (heads_of classes.now) }
-    requires files { length files.now ≡ length classes.now }
-    requires few { length classes.now ≤ 2 ^ 26 }
-    requires numbered { sum_by (count_of OfMethods) (heads_of classes.now) ≤ 2 ^ 26 }
-    requires inside { c < length classes.now }
-    requires declared { (class : ClassSpelled) → slice_get classes.now c ≡ Some class → m < length class.head.methods }
-    requires so_far { AreUpTo table.now.rows classes.now c m code.old.methods code.old.sites }
-    ensures added { OnOk result (AreUpTo table.now.rows classes.now c (suc m) code.new.methods code.new.sites) }
+    requires answer { IsAnswer table.now.rows classes.now answer }
+    requires so_far { AreUpTo table.now.rows classes.now answer.place.class answer.place.method code.old.methods code.old.sites }
+    ensures added { OnOk result (AreUpTo table.now.rows classes.now answer.place.class (suc answer.place.method) code.new.methods code.new.sites) }
     ensures refused { IfErr result (IsLowerFault files.now classes.now) }
 {
     law_one_method();
-    match lower_method(alloc, hier, table, &classes[c as usize], ClassId(c), m) {
-        Err(fault) => Err(method_fault(alloc, files.at(c as u64), m, fault)),
+    let Answer { place, outcome } = answer;
+    match outcome {
+        Err(fault) => Err(method_fault(alloc, files.at(place.class as u64), place.method, fault)),
         Ok(lowered) => {
             add_lowered(alloc, code, lowered)?;
             Ok(())

@@ -16,14 +16,22 @@ use ja_lib::Table;
 use ja_methods::law_whole_method;
 use ja_outline::{class_infos, entries, fields};
 use std::alloc::Global;
+use std::thread::Threads;
+
+/// How few methods are worth a thread of their own.
+const LEAST_METHODS: usize = 32;
 
 /// The program that classes and a table make. The name of the file of each class stands at its place.
+///
+/// The methods are lowered in threads, two for each processor at most. The program or the refusal is the
+/// same whatever their number.
 ///
 /// # Errors
 ///
 /// The first refusal: of the hierarchy of the classes, and else of the first method that is refused, in the
 /// order of the classes and, in one class, as declared. `Memory` for want of memory.
-pub fn lower(
+pub fn lower<R: Threads + Sync>(
+    rt: &R,
     alloc: Global,
     names: &Names,
     classes: &[Class],
@@ -34,9 +42,31 @@ pub fn lower(
     ensures program { IfOk result (IsProgramOf names.now classes.now t.now) }
     ensures refused { IfErr result (IsLowerFault names.now classes.now) }
 {
+    lower_in_pieces(rt, alloc, names, classes, t, LEAST_METHODS)
+}
+
+/// The program that classes and a table make, as `lower` answers it, where a thread of its own lowers `least`
+/// methods or more: where `least` is the number of all methods, the calling thread lowers them.
+///
+/// # Errors
+///
+/// Those of `lower`.
+pub fn lower_in_pieces<R: Threads + Sync>(
+    rt: &R,
+    alloc: Global,
+    names: &Names,
+    classes: &[Class],
+    t: &Table,
+    least: usize,
+) -> Result<Program, LowerFault>
+    requires files { length names.now ≡ length classes.now }
+    requires few { AreFew classes.now }
+    ensures program { IfOk result (IsProgramOf names.now classes.now t.now) }
+    ensures refused { IfErr result (IsLowerFault names.now classes.now) }
+{
     law_whole_method();
     let hier = hierarchy_of(alloc, names, classes)?;
-    let code = code_of(alloc, names, &hier, classes, t)?;
+    let code = code_of(rt, alloc, names, &hier, classes, t, least)?;
     let infos = class_infos(alloc, &hier, names)?;
     let fields = fields(alloc, &hier)?;
     let entries = entries(alloc, &hier, t)?;

@@ -36,22 +36,22 @@ pub code-few : (pool : Table) (code : Code) → IsDecoded pool code → length c
 code-few pool code is = omega (arith, chain-count 0 (length is.bytes) code.instrs (code-chain pool code is), is.short)
 
 -- a fault of the kinds is a refusal of the code
-pub kinds-refused : (heads : List ClassHead) (class : ClassSpelled) (m : ℕ) (fault : KindFault) (refusal : MethodFault) → refusal ≡ kind_refusal fault
-    → (fault ≡ kind_faults.Memory) ⊎ IsFaultOf class m fault → (refusal ≡ faults.Memory) ⊎ IsCodeRefused heads class m refusal
-kinds-refused heads class m fault refusal e (inl memory) = inl (e ∙ ap kind_refusal memory)
-kinds-refused heads class m fault refusal e (inr is) = inr (subst (λ (r : MethodFault). IsCodeRefused heads class m r) (sym e) (IsCodeRefused.kinds fault is))
+pub kinds-refused : (heads : List ClassHead) (class : ClassSpelled) (c m : ℕ) (fault : KindFault) (refusal : MethodFault) → refusal ≡ kind_refusal fault
+    → (fault ≡ kind_faults.Memory) ⊎ IsFaultOf class m fault → (refusal ≡ faults.Memory) ⊎ IsCodeRefused heads class c m refusal
+kinds-refused heads class c m fault refusal e (inl memory) = inl (e ∙ ap kind_refusal memory)
+kinds-refused heads class c m fault refusal e (inr is) = inr (subst (λ (r : MethodFault). IsCodeRefused heads class c m r) (sym e) (IsCodeRefused.kinds fault is))
 
 -- so is the first refusal of an instruction
-pub instr-refused : (heads : List ClassHead) (class : ClassSpelled) (m : ℕ) (code : Code) (kinds : List (Option KindState)) (refusal : MethodFault) → IsCodeOf class m code → AreKindsOf class m kinds
-    → (refusal ≡ faults.Memory) ⊎ IsFirstRefusal heads class.pool code.instrs refusal → (refusal ≡ faults.Memory) ⊎ IsCodeRefused heads class m refusal
-instr-refused heads class m code kinds refusal is are (inl memory) = inl memory
-instr-refused heads class m code kinds refusal is are (inr first) = inr (IsCodeRefused.instruction is kinds are first)
+pub instr-refused : (heads : List ClassHead) (class : ClassSpelled) (c m : ℕ) (code : Code) (kinds : List (Option KindState)) (refusal : MethodFault) → IsCodeOf class m code → AreKindsOf class m kinds
+    → (refusal ≡ faults.Memory) ⊎ IsFirstRefusal heads c class.pool code.instrs refusal → (refusal ≡ faults.Memory) ⊎ IsCodeRefused heads class c m refusal
+instr-refused heads class c m code kinds refusal is are (inl memory) = inl memory
+instr-refused heads class c m code kinds refusal is are (inr first) = inr (IsCodeRefused.instruction is kinds are first)
 
 -- a refusal of the code of a method that is not native is one of the method
-pub code-refused : (heads : List ClassHead) (class : ClassSpelled) (m : ℕ) (head : HeadMethod) (refusal : MethodFault) → slice_get class.head.methods m ≡ Some head → Rattle.ja_methods.specs.Method.is_native head.flags ≡ Rattle.std.proofs.Common.false
-    → (refusal ≡ faults.Memory) ⊎ IsCodeRefused heads class m refusal → (refusal ≡ faults.Memory) ⊎ IsRefused heads class m refusal
-code-refused heads class m head refusal at not-native (inl memory) = inl memory
-code-refused heads class m head refusal at not-native (inr is) = inr (IsRefused.coded at not-native is)
+pub code-refused : (heads : List ClassHead) (class : ClassSpelled) (c m : ℕ) (head : HeadMethod) (refusal : MethodFault) → slice_get class.head.methods m ≡ Some head → Rattle.ja_methods.specs.Method.is_native head.flags ≡ Rattle.std.proofs.Common.false
+    → (refusal ≡ faults.Memory) ⊎ IsCodeRefused heads class c m refusal → (refusal ≡ faults.Memory) ⊎ IsRefused heads class c m refusal
+code-refused heads class c m head refusal at not-native (inl memory) = inl memory
+code-refused heads class c m head refusal at not-native (inr is) = inr (IsRefused.coded at not-native is)
 
 -- a method has few instructions
 pub content-few : (heads : List ClassHead) (rows : List TableRow) (class : ClassSpelled) → IsSpelled class → (c m : ℕ) (body : ClassMethod) (o : Option Code) (list : List Instr) (handlers : List Handler)

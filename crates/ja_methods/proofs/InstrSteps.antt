@@ -24,7 +24,7 @@ pub record InstrsBelow (heads : List ClassHead) (rows : List TableRow) (c : ℕ)
   pub size : length list ≡ k
   pub each : (j : ℕ) (raw : RawInstr) (instr : Instr) → slice_get instrs j ≡ Some raw → slice_get list j ≡ Some instr
       → IsInstrOf heads rows c pool instrs (state_before kinds j) j raw instr
-  pub clean : NoneBefore heads pool instrs k
+  pub clean : NoneBefore heads c pool instrs k
 
 -- one instruction found at two places that are one
 pub same-item : {X : Type 0} (xs : List X) (j k : ℕ) (a b : X) → j ≡ k → slice_get xs j ≡ Some a → slice_get xs k ≡ Some b → a ≡ b
@@ -46,7 +46,7 @@ pub instrs-none : (heads : List ClassHead) (rows : List TableRow) (c : ℕ) (poo
 instrs-none heads rows c pool instrs kinds = record { size = refl; each = λ j raw instr at there. absurd (cc); clean = λ j raw lt. absurd (omega arith) }
 
 pub instrs-more : (heads : List ClassHead) (rows : List TableRow) (c : ℕ) (pool : Table) (instrs : List RawInstr) (kinds : List (Option KindState)) (k : ℕ) (list new : List Instr) (raw : RawInstr) (instr : Instr) (before : Option KindState)
-    → slice_get instrs k ≡ Some raw → slice_get kinds k ≡ Some before → InstrsBelow heads rows c pool instrs kinds k list → IsInstrOf heads rows c pool instrs before k raw instr → IsUnrefused heads pool raw
+    → slice_get instrs k ≡ Some raw → slice_get kinds k ≡ Some before → InstrsBelow heads rows c pool instrs kinds k list → IsInstrOf heads rows c pool instrs before k raw instr → IsUnrefused heads c pool raw
     → new ≡ list ++ instr ∷ [] → InstrsBelow heads rows c pool instrs kinds (k + 1) new
 instrs-more heads rows c pool instrs kinds k list new raw instr before at known below is unrefused e =
     let state : state_before kinds k ≡ before = get_or_from_slice_get kinds k before None known in
@@ -64,7 +64,7 @@ instrs-more heads rows c pool instrs kinds k list new raw instr before at known 
       ];
       clean = λ j other lt there. elim (cases_lt j k) [
         | inl old ↦ below.clean j other old there
-        | inr last ↦ subst (λ (x : RawInstr). IsUnrefused heads pool x) (same-item instrs k j raw other (omega (arith, lt, last)) at there) unrefused
+        | inr last ↦ subst (λ (x : RawInstr). IsUnrefused heads c pool x) (same-item instrs k j raw other (omega (arith, lt, last)) at there) unrefused
       ];
     }
 
@@ -74,16 +74,16 @@ instrs-all heads rows c pool instrs kinds k list e below = record { size = below
 
 -- the first refusal
 pub first-refusal : (heads : List ClassHead) (rows : List TableRow) (c : ℕ) (pool : Table) (instrs : List RawInstr) (kinds : List (Option KindState)) (k : ℕ) (list : List Instr) (raw : RawInstr) (refusal : MethodFault)
-    → slice_get instrs k ≡ Some raw → InstrsBelow heads rows c pool instrs kinds k list → (refusal ≡ faults.Memory) ⊎ IsRefusalOf heads pool raw refusal
-    → (refusal ≡ faults.Memory) ⊎ IsFirstRefusal heads pool instrs refusal
+    → slice_get instrs k ≡ Some raw → InstrsBelow heads rows c pool instrs kinds k list → (refusal ≡ faults.Memory) ⊎ IsRefusalOf heads c pool raw refusal
+    → (refusal ≡ faults.Memory) ⊎ IsFirstRefusal heads c pool instrs refusal
 first-refusal heads rows c pool instrs kinds k list raw refusal at below (inl memory) = inl memory
 first-refusal heads rows c pool instrs kinds k list raw refusal at below (inr is) = inr (record { k = k; raw = raw; at = at; is = is; before = below.clean })
 
 -- a fault of an instruction is a refusal of it, unless it is want of memory
-pub refusal-of : (heads : List ClassHead) (pool : Table) (raw : RawInstr) (fault : OpFault) (refusal : MethodFault) → refusal ≡ instr_refusal raw.pc fault → UnlessMemory (IsRefusedFor heads pool raw) fault
-    → (refusal ≡ faults.Memory) ⊎ IsRefusalOf heads pool raw refusal
-refusal-of heads pool raw op_faults.Memory refusal e cause = inl e
-refusal-of heads pool raw op_faults.Reflection refusal e cause = inr (record { fault = op_faults.Reflection; refused = cause; is = e })
-refusal-of heads pool raw op_faults.ThreadStart refusal e cause = inr (record { fault = op_faults.ThreadStart; refused = cause; is = e })
-refusal-of heads pool raw op_faults.LibraryStore refusal e cause = inr (record { fault = op_faults.LibraryStore; refused = cause; is = e })
-refusal-of heads pool raw op_faults.NoField refusal e cause = inr (record { fault = op_faults.NoField; refused = cause; is = e })
+pub refusal-of : (heads : List ClassHead) (c : ℕ) (pool : Table) (raw : RawInstr) (fault : OpFault) (refusal : MethodFault) → refusal ≡ instr_refusal raw.pc fault → UnlessMemory (IsRefusedFor heads c pool raw) fault
+    → (refusal ≡ faults.Memory) ⊎ IsRefusalOf heads c pool raw refusal
+refusal-of heads c pool raw op_faults.Memory refusal e cause = inl e
+refusal-of heads c pool raw op_faults.Reflection refusal e cause = inr (record { fault = op_faults.Reflection; refused = cause; is = e })
+refusal-of heads c pool raw op_faults.ThreadStart refusal e cause = inr (record { fault = op_faults.ThreadStart; refused = cause; is = e })
+refusal-of heads c pool raw op_faults.LibraryStore refusal e cause = inr (record { fault = op_faults.LibraryStore; refused = cause; is = e })
+refusal-of heads c pool raw op_faults.NoField refusal e cause = inr (record { fault = op_faults.NoField; refused = cause; is = e })

@@ -55,10 +55,10 @@ OneOperation =
 abbrev pub OperationOrRefusal : Type 0
 OperationOrRefusal =
     (heads : List ClassHead) (rows : List TableRow) (c : ℕ) (pool : Table) (i : RawInstr) (before : Option KindState) (op : Op) (fault : OpFault)
-    → IsOperation heads rows c pool i before op → IsRefusedFor heads pool i fault → ⊥
+    → IsOperation heads rows c pool i before op → IsRefusedFor heads c pool i fault → ⊥
 
 abbrev pub OneRefusal : Type 0
-OneRefusal = (heads : List ClassHead) (pool : Table) (i : RawInstr) (fault other : OpFault) → IsRefusedFor heads pool i fault → IsRefusedFor heads pool i other → fault ≡ other
+OneRefusal = (heads : List ClassHead) (c : ℕ) (pool : Table) (i : RawInstr) (fault other : OpFault) → IsRefusedFor heads c pool i fault → IsRefusedFor heads c pool i other → fault ≡ other
 
 same-instr : (a b : Instr) → a.pc ≡ b.pc → a.op ≡ b.op → a.next ≡ b.next → a.height ≡ b.height → a.reached ≡ b.reached → a ≡ b
 same-instr a b p o n h r = λ i. record { pc = p i; op = o i; next = n i; height = h i; reached = r i }
@@ -119,43 +119,43 @@ one-code class m a b p q =
     let both : Some a ≡ Some b = sym p.code_is ∙ ap (λ (x : ClassMethod). x.code) body ∙ q.code_is in
     cc
 
-one-first : OneRefusal → (heads : List ClassHead) (pool : Table) (instrs : List RawInstr) (x y : MethodFault) → IsFirstRefusal heads pool instrs x → IsFirstRefusal heads pool instrs y → x ≡ y
-one-first one heads pool instrs x y p q = elim (cases_lt p.k q.k) [
+one-first : OneRefusal → (heads : List ClassHead) (c : ℕ) (pool : Table) (instrs : List RawInstr) (x y : MethodFault) → IsFirstRefusal heads c pool instrs x → IsFirstRefusal heads c pool instrs y → x ≡ y
+one-first one heads c pool instrs x y p q = elim (cases_lt p.k q.k) [
   | inl lt ↦ absurd (q.before p.k p.raw lt p.at p.is.fault p.is.refused)
   | inr ge ↦ elim (cases_lt q.k p.k) [
     | inl lt ↦ absurd (p.before q.k q.raw lt q.at q.is.fault q.is.refused)
     | inr le ↦
         let raw : p.raw ≡ q.raw = same-item instrs p.k q.k p.raw q.raw (omega arith) p.at q.at in
-        let fault : p.is.fault ≡ q.is.fault = one heads pool q.raw p.is.fault q.is.fault (subst (λ (i : RawInstr). IsRefusedFor heads pool i p.is.fault) raw p.is.refused) q.is.refused in
+        let fault : p.is.fault ≡ q.is.fault = one heads c pool q.raw p.is.fault q.is.fault (subst (λ (i : RawInstr). IsRefusedFor heads c pool i p.is.fault) raw p.is.refused) q.is.refused in
         p.is.is ∙ ap (λ (i : RawInstr). instr_refusal i.pc p.is.fault) raw ∙ ap (instr_refusal q.raw.pc) fault ∙ sym q.is.is
   ]
 ]
 
-one-code-refusal : OneKindFault → KindsOrFault → OneRefusal → (heads : List ClassHead) (class : ClassSpelled) (m : ℕ) (x y : MethodFault) → IsCodeRefused heads class m x → IsCodeRefused heads class m y → x ≡ y
-one-code-refusal fault either one heads class m x y (IsCodeRefused.kinds f p) (IsCodeRefused.kinds g q) = ap kind_refusal (fault class m f g p q)
-one-code-refusal fault either one heads class m x y (IsCodeRefused.kinds f p) (IsCodeRefused.instruction {code} {refusal} of ks are first) = absurd (either class m ks f are p)
-one-code-refusal fault either one heads class m x y (IsCodeRefused.instruction {code} {refusal} of ks are first) (IsCodeRefused.kinds g q) = absurd (either class m ks g are q)
-one-code-refusal fault either one heads class m x y (IsCodeRefused.instruction {code = a} {refusal = r} of ks are first) (IsCodeRefused.instruction {code = b} {refusal = s} of' ls are' first') =
+one-code-refusal : OneKindFault → KindsOrFault → OneRefusal → (heads : List ClassHead) (class : ClassSpelled) (c m : ℕ) (x y : MethodFault) → IsCodeRefused heads class c m x → IsCodeRefused heads class c m y → x ≡ y
+one-code-refusal fault either one heads class c m x y (IsCodeRefused.kinds f p) (IsCodeRefused.kinds g q) = ap kind_refusal (fault class m f g p q)
+one-code-refusal fault either one heads class c m x y (IsCodeRefused.kinds f p) (IsCodeRefused.instruction {code} {refusal} of ks are first) = absurd (either class m ks f are p)
+one-code-refusal fault either one heads class c m x y (IsCodeRefused.instruction {code} {refusal} of ks are first) (IsCodeRefused.kinds g q) = absurd (either class m ks g are q)
+one-code-refusal fault either one heads class c m x y (IsCodeRefused.instruction {code = a} {refusal = r} of ks are first) (IsCodeRefused.instruction {code = b} {refusal = s} of' ls are' first') =
     let same : a ≡ b = one-code class m a b of of' in
-    one-first one heads class.pool b.instrs x y (subst (λ (z : Code). IsFirstRefusal heads class.pool z.instrs x) same first) first'
+    one-first one heads c class.pool b.instrs x y (subst (λ (z : Code). IsFirstRefusal heads c class.pool z.instrs x) same first) first'
 
 -- a method has one refusal
-pub one-refusal : OneKindFault → KindsOrFault → OneRefusal → (heads : List ClassHead) (class : ClassSpelled) (m : ℕ) (x y : MethodFault) → IsRefused heads class m x → IsRefused heads class m y → x ≡ y
-one-refusal fault either one heads class m x y (IsRefused.native {head = g} a n) (IsRefused.native {head = h} b o) = refl
-one-refusal fault either one heads class m x y (IsRefused.native {head = g} a n) (IsRefused.coded {head = h} b o is) =
+pub one-refusal : OneKindFault → KindsOrFault → OneRefusal → (heads : List ClassHead) (class : ClassSpelled) (c m : ℕ) (x y : MethodFault) → IsRefused heads class c m x → IsRefused heads class c m y → x ≡ y
+one-refusal fault either one heads class c m x y (IsRefused.native {head = g} a n) (IsRefused.native {head = h} b o) = refl
+one-refusal fault either one heads class c m x y (IsRefused.native {head = g} a n) (IsRefused.coded {head = h} b o is) =
     let head : g ≡ h = same-item class.head.methods m m g h refl a b in
     let flags : is_native g.flags ≡ is_native h.flags = ap (λ (z : HeadMethod). is_native z.flags) head in
     absurd (cc)
-one-refusal fault either one heads class m x y (IsRefused.coded {head = g} a n is) (IsRefused.native {head = h} b o) =
+one-refusal fault either one heads class c m x y (IsRefused.coded {head = g} a n is) (IsRefused.native {head = h} b o) =
     let head : g ≡ h = same-item class.head.methods m m g h refl a b in
     let flags : is_native g.flags ≡ is_native h.flags = ap (λ (z : HeadMethod). is_native z.flags) head in
     absurd (cc)
-one-refusal fault either one heads class m x y (IsRefused.coded {head = g} a n is) (IsRefused.coded {head = h} b o is') = one-code-refusal fault either one heads class m x y is is'
+one-refusal fault either one heads class c m x y (IsRefused.coded {head = g} a n is) (IsRefused.coded {head = h} b o is') = one-code-refusal fault either one heads class c m x y is is'
 
 -- ---- a method that is answered is not refused
 
 code-taken : KindsOrFault → OperationOrRefusal → (heads : List ClassHead) (rows : List TableRow) (class : ClassSpelled) (c m : ℕ) (body : ClassMethod) (o : Option Code) (list : List Instr) (handlers : List Handler) (x : MethodFault)
-    → slice_get class.methods m ≡ Some body → body.code ≡ o → HasContent heads rows class c m o list handlers → IsCodeRefused heads class m x → ⊥
+    → slice_get class.methods m ≡ Some body → body.code ≡ o → HasContent heads rows class c m o list handlers → IsCodeRefused heads class c m x → ⊥
 code-taken either one heads rows class c m body None list handlers x at e has (IsCodeRefused.kinds f p) =
     let same : p.has_frame.method ≡ body = same-item class.methods m m p.has_frame.method body refl p.has_frame.method_at at in
     let none : None ≡ Some p.code = sym e ∙ ap (λ (b : ClassMethod). b.code) (sym same) ∙ p.has_frame.code_is in
@@ -172,7 +172,7 @@ code-taken either one heads rows class c m body (Some code) list handlers x at e
     one heads rows c class.pool first.raw (state_before has.kinds first.k) instr.item.op first.is.fault (has.instrs.each first.k first.raw instr.item here instr.at).operation first.is.refused
 
 pub not-both : KindsOrFault → OperationOrRefusal → (heads : List ClassHead) (rows : List TableRow) (class : ClassSpelled) (c m : ℕ) (method : Method) (x : MethodFault) → IsMethodOf heads rows class c m method
-    → IsRefused heads class m x → ⊥
+    → IsRefused heads class c m x → ⊥
 not-both either one heads rows class c m method x is (IsRefused.native {head} at n) =
     let same : head ≡ is.head = same-item class.head.methods m m head is.head refl at is.declared.head_at in
     let flags : is_native head.flags ≡ is_native is.head.flags = ap (λ (z : HeadMethod). is_native z.flags) same in

@@ -33,36 +33,36 @@ instr_refusal pc op_faults.LibraryStore = faults.LibraryStore pc
 instr_refusal pc op_faults.NoField = faults.NoField pc
 instr_refusal pc op_faults.Memory = faults.Memory
 
--- an instruction is not refused
-abbrev pub IsUnrefused : List ClassHead → Table → RawInstr → Type 0
-IsUnrefused heads pool raw = (fault : OpFault) → IsRefusedFor heads pool raw fault → ⊥
+-- an instruction of class c is not refused
+abbrev pub IsUnrefused : List ClassHead → (c : ℕ) → Table → RawInstr → Type 0
+IsUnrefused heads c pool raw = (fault : OpFault) → IsRefusedFor heads c pool raw fault → ⊥
 
--- the refusal is that of an instruction
-pub record IsRefusalOf (heads : List ClassHead) (pool : Table) (raw : RawInstr) (refusal : MethodFault) : Type 0 where
+-- the refusal is that of an instruction of class c
+pub record IsRefusalOf (heads : List ClassHead) (c : ℕ) (pool : Table) (raw : RawInstr) (refusal : MethodFault) : Type 0 where
   pub fault : OpFault
-  pub refused : IsRefusedFor heads pool raw fault
+  pub refused : IsRefusedFor heads c pool raw fault
   pub is : refusal ≡ instr_refusal raw.pc fault
 
--- no instruction before index k is refused
-abbrev pub NoneBefore : List ClassHead → Table → List RawInstr → (k : ℕ) → Type 0
-NoneBefore heads pool instrs k = (j : ℕ) (raw : RawInstr) → j < k → slice_get instrs j ≡ Some raw → IsUnrefused heads pool raw
+-- no instruction of class c before index k is refused
+abbrev pub NoneBefore : List ClassHead → (c : ℕ) → Table → List RawInstr → (k : ℕ) → Type 0
+NoneBefore heads c pool instrs k = (j : ℕ) (raw : RawInstr) → j < k → slice_get instrs j ≡ Some raw → IsUnrefused heads c pool raw
 
--- the refusal is that of the first instruction that is refused, reached or not
-pub record IsFirstRefusal (heads : List ClassHead) (pool : Table) (instrs : List RawInstr) (refusal : MethodFault) : Type 0 where
+-- the refusal is that of the first instruction of class c that is refused, reached or not
+pub record IsFirstRefusal (heads : List ClassHead) (c : ℕ) (pool : Table) (instrs : List RawInstr) (refusal : MethodFault) : Type 0 where
   pub k : ℕ
   pub raw : RawInstr
   pub at : slice_get instrs k ≡ Some raw
-  pub is : IsRefusalOf heads pool raw refusal
-  pub before : NoneBefore heads pool instrs k
+  pub is : IsRefusalOf heads c pool raw refusal
+  pub before : NoneBefore heads c pool instrs k
 
--- why the code of method m of a class is refused: it has a fault of kinds, else an instruction is refused
-pub data IsCodeRefused (heads : List ClassHead) (class : ClassSpelled) (m : ℕ) : MethodFault → Type 0 where
-  kinds : (fault : KindFault) → IsFaultOf class m fault → IsCodeRefused heads class m (kind_refusal fault)
+-- why the code of method m of class c is refused: it has a fault of kinds, else an instruction is refused
+pub data IsCodeRefused (heads : List ClassHead) (class : ClassSpelled) (c m : ℕ) : MethodFault → Type 0 where
+  kinds : (fault : KindFault) → IsFaultOf class m fault → IsCodeRefused heads class c m (kind_refusal fault)
   instruction : {code : Code} {refusal : MethodFault} → IsCodeOf class m code → (kinds : List (Option KindState)) → AreKindsOf class m kinds
-      → IsFirstRefusal heads class.pool code.instrs refusal → IsCodeRefused heads class m refusal
+      → IsFirstRefusal heads c class.pool code.instrs refusal → IsCodeRefused heads class c m refusal
 
--- why method m of a class is refused: it is native, else its code is refused
-pub data IsRefused (heads : List ClassHead) (class : ClassSpelled) (m : ℕ) : MethodFault → Type 0 where
-  native : {head : HeadMethod} → slice_get class.head.methods m ≡ Some head → is_native head.flags ≡ true → IsRefused heads class m faults.Native
+-- why method m of class c is refused: it is native, else its code is refused
+pub data IsRefused (heads : List ClassHead) (class : ClassSpelled) (c m : ℕ) : MethodFault → Type 0 where
+  native : {head : HeadMethod} → slice_get class.head.methods m ≡ Some head → is_native head.flags ≡ true → IsRefused heads class c m faults.Native
   coded : {head : HeadMethod} {refusal : MethodFault} → slice_get class.head.methods m ≡ Some head → is_native head.flags ≡ false
-      → IsCodeRefused heads class m refusal → IsRefused heads class m refusal
+      → IsCodeRefused heads class c m refusal → IsRefused heads class c m refusal

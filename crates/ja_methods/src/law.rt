@@ -32,10 +32,10 @@ pub fn law_sites_name_calls()
 pub fn law_one_method()
     ensures one_method { (heads : List ClassHead) (rows : List TableRow) (class : ClassSpelled) (c m : ℕ) (method other : Method) →
         IsMethodOf heads rows class c m method → IsMethodOf heads rows class c m other → method ≡ other }
-    ensures one_refusal { (heads : List ClassHead) (class : ClassSpelled) (m : ℕ) (refusal other : MethodFault) →
-        IsRefused heads class m refusal → IsRefused heads class m other → refusal ≡ other }
+    ensures one_refusal { (heads : List ClassHead) (class : ClassSpelled) (c m : ℕ) (refusal other : MethodFault) →
+        IsRefused heads class c m refusal → IsRefused heads class c m other → refusal ≡ other }
     ensures not_both { (heads : List ClassHead) (rows : List TableRow) (class : ClassSpelled) (c m : ℕ) (method : Method) (refusal : MethodFault) →
-        IsMethodOf heads rows class c m method → IsRefused heads class m refusal → ⊥ }
+        IsMethodOf heads rows class c m method → IsRefused heads class c m refusal → ⊥ }
 {
     law_one_answer();
     law_one_operation();

@@ -60,7 +60,7 @@ fn coded(
     requires classes { length hier.now ≤ 2 ^ 26 }
     requires code { IsCodeOf class.now m code.now }
     ensures ok { IfOk result (λ x. HasInstrs hier.now table.now.rows class.now c.0 m code.now x.code x.handlers) }
-    ensures refused { IfErr result (λ f. (f ≡ faults.Memory) ⊎ IsCodeRefused hier.now class.now m f) }
+    ensures refused { IfErr result (λ f. (f ≡ faults.Memory) ⊎ IsCodeRefused hier.now class.now c.0 m f) }
 {
     law_each_is_profiled();
     let kinds = match kinds(alloc, class, m) {
@@ -96,7 +96,7 @@ fn content_of(
     requires method { m < length class.now.methods }
     ensures ok { (body : ClassMethod) → slice_get class.now.methods m ≡ Some body →
         IfOk result (λ x. HasContent hier.now table.now.rows class.now c.0 m body.code x.code x.handlers) }
-    ensures refused { IfErr result (λ f. (f ≡ faults.Memory) ⊎ IsCodeRefused hier.now class.now m f) }
+    ensures refused { IfErr result (λ f. (f ≡ faults.Memory) ⊎ IsCodeRefused hier.now class.now c.0 m f) }
 {
     let body = class.methods.at(u64::from(m));
     match &body.code {
@@ -122,7 +122,7 @@ fn method_or_refusal(
     requires method { m < length class.now.head.methods }
     ensures ok { IfOk result (λ l. IsMethodOf hier.now table.now.rows class.now c.0 m l.method) }
     ensures sites { IfOk result (λ l. AreSitesOf hier.now l.method.code l.sites) }
-    ensures refused { IfErr result (λ f. (f ≡ faults.Memory) ⊎ IsRefused hier.now class.now m f) }
+    ensures refused { IfErr result (λ f. (f ≡ faults.Memory) ⊎ IsRefused hier.now class.now c.0 m f) }
 {
     let head = class.head.methods.at(u64::from(m));
     if is_native(head) {
@@ -173,9 +173,9 @@ pub fn lower_method(
     // Its sink calls are all of them.
     ensures sites { IfOk result (λ l. AreSitesOf hier.now l.method.code l.sites) }
     // An error is the first refusal, or want of memory.
-    ensures refused { IfErr result (λ f. (f ≡ faults.Memory) ⊎ IsRefused hier.now class.now m f) }
+    ensures refused { IfErr result (λ f. (f ≡ faults.Memory) ⊎ IsRefused hier.now class.now c.0 m f) }
     // The first refusal is the error, unless memory runs out.
-    ensures first { (refusal : MethodFault) → IsRefused hier.now class.now m refusal →
+    ensures first { (refusal : MethodFault) → IsRefused hier.now class.now c.0 m refusal →
         MatchResult result (λ _. ⊥) (λ f. (f ≡ faults.Memory) ⊎ (f ≡ refusal)) }
 {
     law_one_method();

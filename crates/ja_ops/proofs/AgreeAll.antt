@@ -33,7 +33,8 @@ use Rattle.ja_ops.specs.Shuffles.{move_after, shuffle_of}
 use Rattle.ja_ops.specs.Fields as fields
 use Rattle.ja_ops.specs.Fields.{CallsForeign, Accesses, WritesStatic, static_read, member_read, member_write}
 use Rattle.ja_ops.specs.Tokens.{library_token}
-use Rattle.ja_ops.specs.Operation.{loaded as loaded_op, call_kind, local_of, Calls, OperatesAs, IsOperation}
+use Rattle.ja_ops.specs.Targets.{call_kind}
+use Rattle.ja_ops.specs.Operation.{loaded as loaded_op, local_of, Calls, OperatesAs, IsOperation}
 use Rattle.ja_ops.specs.Agreement.{Agrees}
 use Rattle.ja_ops.proofs.ShuffleAgrees.{MovesByOne, FittingMoves, shuffle_agrees}
 use Rattle.ja_ops.proofs.Agree.{Changes, accepted_turned, exchanges, loads, stores, counts, leaves}

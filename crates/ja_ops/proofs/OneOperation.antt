@@ -34,7 +34,7 @@ use Rattle.ja_ops.specs.Fields.{IsFieldAt, CallsForeign, Accesses, WritesStatic}
 use Rattle.ja_ops.specs.Rows as tried
 use Rattle.ja_ops.specs.Rows.{AreTried, IsFirstRow, IsRow, first_row, default_row}
 use Rattle.ja_ops.specs.Targets as targets
-use Rattle.ja_ops.specs.Targets.{FindsFrom, BeginsAbove, BeginsAt, FindsSome, FindsSpecial, IsFound}
+use Rattle.ja_ops.specs.Targets.{call_kind, FindsFrom, BeginsAbove, BeginsAt, FindsSome, FindsSpecial, LooksUp, IsFound}
 use Rattle.ja_ops.specs.Refused.{is_reflective, StartsThread, RefusesCall, reflection, thread_start, RefusesAccess, RefusesStore, library_store, Refuses, IsRefusedFor}
 use Rattle.ja_ops.specs.Refused as refused
 use Rattle.ja_ops.specs.Operation.{IsCall, Calls, OperatesAs, IsOperation}
@@ -140,6 +140,15 @@ module _ (heads : List ClassHead) where
         let same : p.class ≡ q.class = one_beginning c member p.class q.class p.begins q.begins in
         one_some p.class member a b p.finds (subst (λ (x : List ℕ). FindsSome heads x member b) (sym same) q.finds)
 
+    -- as does the look-up of a call
+    pub one_look_up : (c : ℕ) (member : MemberRef) (kind : CallKind) (a b : MethodAt) → LooksUp heads c member kind a → LooksUp heads c member kind b → a ≡ b
+    one_look_up c member Special a b p q = let one : Some a ≡ Some b = one_special c member (Some a) (Some b) p q in cc one
+    one_look_up c member Static a b p q = one_from member.class member.name member.desc a b p q
+    one_look_up c member Virtual a b p q = one_from member.class member.name member.desc a b p q
+    one_look_up c member Interface a b p q = one_from member.class member.name member.desc a b p q
+    one_look_up c member StaticField a b p q = one_from member.class member.name member.desc a b p q
+    one_look_up c member MemberField a b p q = one_from member.class member.name member.desc a b p q
+
     one_found : (c : ℕ) (member : MemberRef) (kind : CallKind) (a b : Option MethodAt) → IsFound heads c member kind a → IsFound heads c member kind b → a ≡ b
     one_found c member Static a b p q = one_some member.class member a b p q
     one_found c member Special a b p q = one_special c member a b p q
@@ -197,11 +206,11 @@ module _ (heads : List ClassHead) (rows : List TableRow)
         let same : p.behaviour ≡ q.behaviour = same_some (behaviour_at i.opcode) p.behaviour q.behaviour p.opcode q.opcode in
         one_operates p.behaviour x y p.operates (subst (λ (b : Behaviour). OperatesAs heads rows c pool i before b y) (sym same) q.operates)
 
-    call_right : (member : MemberRef) (kind : CallKind) (op : Op) (fault : OpFault) → Calls heads rows c kind member op → RefusesCall heads member fault → ⊥
+    call_right : (member : MemberRef) (kind : CallKind) (op : Op) (fault : OpFault) → Calls heads rows c kind member op → RefusesCall heads c kind member fault → ⊥
     call_right member kind op fault p (reflection e) = let no : true ≡ false = sym e ∙ p.made.no_reflection in cc no
     call_right member kind op fault p (thread_start e s) = p.made.no_thread s
 
-    not_refused : (b : Behaviour) (op : Op) (fault : OpFault) → OperatesAs heads rows c pool i before b op → Refuses heads (member_in pool i) b fault → ⊥
+    not_refused : (b : Behaviour) (op : Op) (fault : OpFault) → OperatesAs heads rows c pool i before b op → Refuses heads c pool i b fault → ⊥
     not_refused does.GetStatic op fault p q = access_right heads field_law (member_in pool i) _ _ op fault p q
     not_refused does.PutStatic op fault p q = write_right heads field_law (member_in pool i) _ op fault p q
     not_refused does.GetField op fault p q = access_right heads field_law (member_in pool i) _ _ op fault p q
@@ -211,28 +220,29 @@ module _ (heads : List ClassHead) (rows : List TableRow)
     not_refused b op fault p q = q
 
     -- an instruction with an operation is not refused
-    pub not_both : (op : Op) (fault : OpFault) → IsOperation heads rows c pool i before op → IsRefusedFor heads pool i fault → ⊥
+    pub not_both : (op : Op) (fault : OpFault) → IsOperation heads rows c pool i before op → IsRefusedFor heads c pool i fault → ⊥
     not_both op fault p q =
         let same : p.behaviour ≡ q.behaviour = same_some (behaviour_at i.opcode) p.behaviour q.behaviour p.opcode q.opcode in
-        not_refused p.behaviour op fault p.operates (subst (λ (b : Behaviour). Refuses heads (member_in pool i) b fault) (sym same) q.refuses)
+        not_refused p.behaviour op fault p.operates (subst (λ (b : Behaviour). Refuses heads c pool i b fault) (sym same) q.refuses)
 
-  one_refused_call : (member : MemberRef) (a b : OpFault) → RefusesCall heads member a → RefusesCall heads member b → a ≡ b
-  one_refused_call member a b (reflection e) (reflection f) = refl
-  one_refused_call member a b (reflection e) (thread_start f s) = let no : true ≡ false = sym e ∙ f in absurd (cc no)
-  one_refused_call member a b (thread_start e s) (reflection f) = let no : true ≡ false = sym f ∙ e in absurd (cc no)
-  one_refused_call member a b (thread_start e s) (thread_start f t) = refl
+  one_refused_call : (c : ℕ) (kind : CallKind) (member : MemberRef) (a b : OpFault) → RefusesCall heads c kind member a → RefusesCall heads c kind member b → a ≡ b
+  one_refused_call c kind member a b (reflection e) (reflection f) = refl
+  one_refused_call c kind member a b (reflection e) (thread_start f s) = let no : true ≡ false = sym e ∙ f in absurd (cc no)
+  one_refused_call c kind member a b (thread_start e s) (reflection f) = let no : true ≡ false = sym f ∙ e in absurd (cc no)
+  one_refused_call c kind member a b (thread_start e s) (thread_start f t) = refl
 
-  one_refuses : (member : MemberRef) (b : Behaviour) (x y : OpFault) → Refuses heads member b x → Refuses heads member b y → x ≡ y
-  one_refuses member does.GetStatic x y p q = one_refused_access heads field_law member x y p q
-  one_refuses member does.PutStatic x y p q = one_refused_store heads field_law member x y p q
-  one_refuses member does.GetField x y p q = one_refused_access heads field_law member x y p q
-  one_refuses member does.PutField x y p q = one_refused_access heads field_law member x y p q
-  one_refuses member does.Invoke x y p q = one_refused_call member x y p q
-  one_refuses member does.InvokeStatic x y p q = one_refused_call member x y p q
-  one_refuses member b x y p q = absurd p
+  module _ (c : ℕ) (pool : Table) (i : RawInstr) where
+    one_refuses : (b : Behaviour) (x y : OpFault) → Refuses heads c pool i b x → Refuses heads c pool i b y → x ≡ y
+    one_refuses does.GetStatic x y p q = one_refused_access heads field_law (member_in pool i) x y p q
+    one_refuses does.PutStatic x y p q = one_refused_store heads field_law (member_in pool i) x y p q
+    one_refuses does.GetField x y p q = one_refused_access heads field_law (member_in pool i) x y p q
+    one_refuses does.PutField x y p q = one_refused_access heads field_law (member_in pool i) x y p q
+    one_refuses does.Invoke x y p q = one_refused_call c (call_kind i.opcode) (member_in pool i) x y p q
+    one_refuses does.InvokeStatic x y p q = one_refused_call c Static (member_in pool i) x y p q
+    one_refuses b x y p q = absurd p
 
-  -- an instruction has one refusal
-  pub one_refusal : (pool : Table) (i : RawInstr) (x y : OpFault) → IsRefusedFor heads pool i x → IsRefusedFor heads pool i y → x ≡ y
-  one_refusal pool i x y p q =
-      let same : p.behaviour ≡ q.behaviour = same_some (behaviour_at i.opcode) p.behaviour q.behaviour p.opcode q.opcode in
-      one_refuses (member_in pool i) p.behaviour x y p.refuses (subst (λ (b : Behaviour). Refuses heads (member_in pool i) b y) (sym same) q.refuses)
+    -- an instruction has one refusal
+    pub one_refusal : (x y : OpFault) → IsRefusedFor heads c pool i x → IsRefusedFor heads c pool i y → x ≡ y
+    one_refusal x y p q =
+        let same : p.behaviour ≡ q.behaviour = same_some (behaviour_at i.opcode) p.behaviour q.behaviour p.opcode q.opcode in
+        one_refuses p.behaviour x y p.refuses (subst (λ (b : Behaviour). Refuses heads c pool i b y) (sym same) q.refuses)

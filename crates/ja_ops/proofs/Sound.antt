@@ -33,8 +33,8 @@ use Rattle.ja_ops.specs.Names.{member_in, class_in}
 use Rattle.ja_ops.specs.Tokens.{library_token, references_token, primitives_token, token_of_some, is_primitive}
 use Rattle.ja_ops.specs.Fields as fields
 use Rattle.ja_ops.specs.Fields.{CallsForeign, Accesses, static_read, member_read, member_write}
-use Rattle.ja_ops.specs.Targets.{FindsFrom, FindsSome, IsFound}
-use Rattle.ja_ops.specs.Operation.{loaded as loaded_op, call_kind, IsCall, OperatesAs, IsOperation}
+use Rattle.ja_ops.specs.Targets.{call_kind, FindsFrom, FindsSome, IsFound}
+use Rattle.ja_ops.specs.Operation.{loaded as loaded_op, IsCall, OperatesAs, IsOperation}
 use Rattle.ja_ops.specs.Agreement.{IsSound}
 use Rattle.ja_ops.proofs.Agree.{accepted_turned, leaves}
 

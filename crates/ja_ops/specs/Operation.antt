@@ -9,7 +9,7 @@ use Rattle.ja_ir.specs.declared.op.Op.{Op}
 use Rattle.ja_ir.specs.declared.op.Op.TheVariants as ops
 use Rattle.ja_ir.specs.declared.op.CallOp.{CallOp}
 use Rattle.ja_ir.specs.declared.op.CallKind.{CallKind}
-use Rattle.ja_ir.specs.declared.op.CallKind.TheVariants.{Virtual, Special, Static, Interface}
+use Rattle.ja_ir.specs.declared.op.CallKind.TheVariants.{Static}
 use Rattle.ja_lib.specs.declared.row.TableRow.{TableRow}
 use Rattle.ja_kinds.specs.declared.state.KindState.{KindState}
 use Rattle.ja_kinds.specs.declared.behaviour.Source.{Source}
@@ -23,7 +23,7 @@ use Rattle.ja_ops.specs.Tokens.{library_token, token_of_class, token_of_array, t
 use Rattle.ja_ops.specs.Shuffles.{move_after, shuffle_of}
 use Rattle.ja_ops.specs.Fields.{Accesses, WritesStatic, static_read, member_read, member_write}
 use Rattle.ja_ops.specs.Rows.{IsRow}
-use Rattle.ja_ops.specs.Targets.{IsFound}
+use Rattle.ja_ops.specs.Targets.{call_kind, IsFound}
 use Rattle.ja_ops.specs.Refused.{is_reflective, StartsThread}
 
 -- what loads a constant with this tag: a text, a class object, or else a number
@@ -33,10 +33,6 @@ loaded heads tag = if tag == 8 then ops.Text else if tag == 7 then ops.New (libr
 -- the local that an instruction uses; its place is spelled in at most two bytes
 abbrev pub local_of : Source → RawInstr → ℕ
 local_of source i = min (place_of source i) 65535
-
--- the kind of a call with a receiver, by its opcode: `invokevirtual`, `invokespecial`, and else `invokeinterface`
-abbrev pub call_kind : (opcode : ℕ) → CallKind
-call_kind opcode = if opcode == 182 then Virtual else if opcode == 183 then Special else Interface
 
 -- a call of this kind in class c of the method that is named, which is refused for nothing
 pub record IsCall (heads : List ClassHead) (rows : List TableRow) (c : ℕ) (kind : CallKind) (member : MemberRef) (call : CallOp) : Type 0 where
@@ -48,7 +44,7 @@ pub record IsCall (heads : List ClassHead) (rows : List TableRow) (c : ℕ) (kin
   pub row : IsRow heads rows member call.row
   pub found : IsFound heads c member call.kind call.found
   pub no_reflection : is_reflective member ≡ false
-  pub no_thread : StartsThread heads member → ⊥
+  pub no_thread : StartsThread heads c kind member → ⊥
 
 -- the operation is such a call
 pub record Calls (heads : List ClassHead) (rows : List TableRow) (c : ℕ) (kind : CallKind) (member : MemberRef) (op : Op) : Type 0 where

@@ -1,5 +1,5 @@
 -- Where static and special calls go (JVM specification 6.5, invokespecial and invokestatic).
-use Rattle.std.specs.Prelude.{◌≡◌, ℕ, true, List, codes, Option, Some, None, slice_get}
+use Rattle.std.specs.Prelude.{◌≡◌, ℕ, ◌==◌, true, List, codes, Option, Some, None, slice_get, if◌then◌else◌}
 use Rattle.ja_ir.specs.declared.head.ClassHead.{ClassHead}
 use Rattle.ja_ir.specs.declared.class.MethodAt.{MethodAt}
 use Rattle.ja_ir.specs.declared.class.MethodAt.TheVariants.{Library}
@@ -11,6 +11,10 @@ use Rattle.ja_hier.specs.LookUps.{Finds}
 use Rattle.ja_supers.specs.Supertypes.{class_named, superclass_name, object_name, IsSuperclass}
 use Rattle.ja_supers.specs.LibraryTypes.{IsNearest}
 use Rattle.ja_ops.specs.declared.member.MemberRef.{MemberRef}
+
+-- the kind of a call with a receiver, by its opcode: `invokevirtual`, `invokespecial`, and else `invokeinterface`
+abbrev pub call_kind : (opcode : ℕ) → CallKind
+call_kind opcode = if opcode == 182 then Virtual else if opcode == 183 then Special else Interface
 
 -- where the look-up of a method ends that begins at the class of a name: for a library class or an array class in the library
 pub data FindsFrom (heads : List ClassHead) (class name desc : List ℕ) : MethodAt → Type 0 where
@@ -56,6 +60,12 @@ pub record FindsSpecial (heads : List ClassHead) (c : ℕ) (member : MemberRef) 
   pub class : List ℕ
   pub begins : BeginsAt heads c member class
   pub finds : FindsSome heads class member found
+
+-- where the look-up of a call in class c ends, before a receiver decides: a special call's may begin above class c, that of another
+-- call begins at the class that is named
+abbrev pub LooksUp : List ClassHead → (c : ℕ) → MemberRef → CallKind → MethodAt → Type 0
+LooksUp heads c member Special at = FindsSpecial heads c member (Some at)
+LooksUp heads c member _ at = FindsFrom heads member.class member.name member.desc at
 
 -- what a call in class c finds before it is made: nothing where the receiver decides
 abbrev pub IsFound : List ClassHead → (c : ℕ) → MemberRef → CallKind → Option MethodAt → Type 0

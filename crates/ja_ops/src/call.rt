@@ -1,8 +1,9 @@
 ghost use Rattle.std.specs.Prelude.{◌≡◌, ◌<◌, length, IfOk, IfErr};
 ghost use Rattle.ja_base.specs.Descriptor.{IsMethod};
 ghost use Rattle.ja_bytes.specs.DescriptorText.{IsMethodText};
-ghost use Rattle.ja_ops.specs.Operation.{call_kind, IsCall};
+ghost use Rattle.ja_ops.specs.Operation.{IsCall};
 ghost use Rattle.ja_ops.specs.Refused.{RefusesCall, UnlessMemory};
+ghost use Rattle.ja_ops.specs.Targets.{call_kind};
 
 use crate::refuse::check_call;
 use crate::row::row_of;
@@ -50,9 +51,9 @@ pub(crate) fn call_of(
     requires class { c.0 < length hier.now }
     requires desc { IsMethodText member.desc }
     ensures ok { IfOk result (IsCall hier.now table.now.rows c.0 kind member) }
-    ensures refused { IfErr result (UnlessMemory (RefusesCall hier.now member)) }
+    ensures refused { IfErr result (UnlessMemory (RefusesCall hier.now c.0 kind member)) }
 {
-    check_call(alloc, hier, &member)?;
+    check_call(alloc, hier, c, kind, &member)?;
     let types = types_of(alloc, member.desc.bytes())?;
     let row = row_of(alloc, hier, table, &member)?;
     let found = found_by(hier, c, kind, &member);

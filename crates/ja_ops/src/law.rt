@@ -26,9 +26,9 @@ pub fn law_one_operation()
     ensures one_operation { (heads : List ClassHead) (rows : List TableRow) (c : ℕ) (pool : Table) (i : RawInstr) (before : Option KindState) (op other : Op) →
         IsOperation heads rows c pool i before op → IsOperation heads rows c pool i before other → op ≡ other }
     ensures not_both { (heads : List ClassHead) (rows : List TableRow) (c : ℕ) (pool : Table) (i : RawInstr) (before : Option KindState) (op : Op) (fault : OpFault) →
-        IsOperation heads rows c pool i before op → IsRefusedFor heads pool i fault → ⊥ }
-    ensures one_refusal { (heads : List ClassHead) (pool : Table) (i : RawInstr) (fault other : OpFault) →
-        IsRefusedFor heads pool i fault → IsRefusedFor heads pool i other → fault ≡ other }
+        IsOperation heads rows c pool i before op → IsRefusedFor heads c pool i fault → ⊥ }
+    ensures one_refusal { (heads : List ClassHead) (c : ℕ) (pool : Table) (i : RawInstr) (fault other : OpFault) →
+        IsRefusedFor heads c pool i fault → IsRefusedFor heads c pool i other → fault ≡ other }
 {
     law_one_reading();
     law_one_answer();

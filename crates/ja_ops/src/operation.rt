@@ -4,7 +4,7 @@ ghost use Rattle.ja_ir.specs.declared.op.Op.TheVariants as ops;
 ghost use Rattle.ja_kinds.specs.declared.state.KindState.{KindState};
 ghost use Rattle.ja_kinds.specs.Effect.{kinds_of, operand_at};
 ghost use Rattle.ja_ops.specs.declared.fault.OpFault.TheVariants as faults;
-ghost use Rattle.ja_ops.specs.Names.{class_in, member_in};
+ghost use Rattle.ja_ops.specs.Names.{class_in};
 ghost use Rattle.ja_ops.specs.Profile.{NamesClass, names_member, Suits, IsProfiled};
 ghost use Rattle.ja_ops.specs.Tokens.{token_of_class, token_of_array, token_of_innermost};
 ghost use Rattle.ja_ops.specs.Shuffles.{move_after, shuffle_of};
@@ -73,7 +73,7 @@ fn by_member(
     requires names { names_member behaviour ≡ true }
     requires suits { Suits pool.now instr.now behaviour }
     ensures ok { IfOk result (λ op. (before : Option KindState) → OperatesAs hier.now table.now.rows c.0 pool.now instr.now before behaviour op) }
-    ensures refused { IfErr result (UnlessMemory (Refuses hier.now (member_in pool.now instr.now) behaviour)) }
+    ensures refused { IfErr result (UnlessMemory (Refuses hier.now c.0 pool.now instr.now behaviour)) }
 {
     let member = member_named(alloc, pool, instr)?;
     match behaviour {
@@ -99,7 +99,7 @@ fn invoke(
     requires class { c.0 < length hier.now }
     requires desc { IsMethodText member.desc }
     ensures ok { IfOk result (Calls hier.now table.now.rows c.0 kind member) }
-    ensures refused { IfErr result (UnlessMemory (RefusesCall hier.now member)) }
+    ensures refused { IfErr result (UnlessMemory (RefusesCall hier.now c.0 kind member)) }
 {
     match call_of(alloc, hier, table, c, kind, member) {
         Ok(call) => Ok(Op::Call(call)),
@@ -177,7 +177,7 @@ fn operates_as(
     requires few { length hier.now ≤ 2 ^ 26 }
     requires suits { Suits pool.now instr.now behaviour }
     ensures ok { IfOk result (OperatesAs hier.now table.now.rows c.0 pool.now instr.now (option_copied before.entry) behaviour) }
-    ensures refused { IfErr result (UnlessMemory (Refuses hier.now (member_in pool.now instr.now) behaviour)) }
+    ensures refused { IfErr result (UnlessMemory (Refuses hier.now c.0 pool.now instr.now behaviour)) }
 {
     match behaviour {
         Behaviour::Nothing => Ok(Op::Nop),
@@ -237,7 +237,7 @@ pub fn operation_of(
     requires few { length hier.now ≤ 2 ^ 26 }
     requires profiled { IsProfiled pool.now instr.now }
     ensures ok { IfOk result (IsOperation hier.now table.now.rows c.0 pool.now instr.now (option_copied before.entry)) }
-    ensures refused { IfErr result (UnlessMemory (IsRefusedFor hier.now pool.now instr.now)) }
+    ensures refused { IfErr result (UnlessMemory (IsRefusedFor hier.now c.0 pool.now instr.now)) }
 {
     match behaviour_of(instr.opcode) {
         Some(behaviour) => operates_as(alloc, hier, table, c, pool, instr, before, behaviour),

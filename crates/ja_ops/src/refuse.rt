@@ -1,13 +1,13 @@
-ghost use Rattle.std.specs.Prelude.{◌≡◌, ◌↔◌, IsTrue, OnOk, IfErr, false, codes};
+ghost use Rattle.std.specs.Prelude.{◌≡◌, ◌<◌, ◌↔◌, length, IsTrue, OnOk, IfErr, false, codes};
 ghost use Rattle.ja_ir.specs.declared.class.MethodAt.TheVariants.{Library};
 ghost use Rattle.ja_ops.specs.Refused.{begins_with, makes_class, is_reflective, TriesThread, StartsThread, RefusesCall, UnlessMemory};
-ghost use Rattle.ja_ops.specs.Targets.{FindsFrom};
+ghost use Rattle.ja_ops.specs.Targets.{FindsFrom, LooksUp};
 
-use crate::target::find_from;
+use crate::target::{find_from, look_up};
 use crate::{MemberRef, OpFault};
-use ja_base::Name;
+use ja_base::{ClassId, Name};
 use ja_hier::{Hier, law_one_answer};
-use ja_ir::MethodAt;
+use ja_ir::{CallKind, MethodAt};
 use ja_supers::law_one_list;
 use std::alloc::Global;
 
@@ -48,15 +48,32 @@ fn tries_thread(hier: &Hier, thread: &Name, class: &Name) -> bool
     }
 }
 
-/// Whether a call starts a thread.
-fn starts_thread(hier: &Hier, thread: &Name, member: &MemberRef) -> bool
-    requires { thread.now ≡ codes "java/lang/Thread" }
-    ensures { IsTrue result ↔ StartsThread hier.now member.now }
+/// Whether a call of this kind in a class starts a thread.
+fn starts_thread(hier: &Hier, thread: &Name, c: ClassId, kind: CallKind, member: &MemberRef) -> bool
+    requires class { c.0 < length hier.now }
+    requires thread { thread.now ≡ codes "java/lang/Thread" }
+    ensures { IsTrue result ↔ StartsThread hier.now c.0 kind member.now }
 {
     member.name.bytes() == b"start".as_slice()
         && member.desc.bytes() == b"()V".as_slice()
         && tries_thread(hier, thread, &member.class)
-        && finds_nothing(hier, &member.class, &member.name, &member.desc)
+        && calls_library(hier, c, kind, member)
+}
+
+/// Whether the look-up of a call in a class ends in the library, before a receiver decides.
+fn calls_library(hier: &Hier, c: ClassId, kind: CallKind, member: &MemberRef) -> bool
+    requires { c.0 < length hier.now }
+    ensures { IsTrue result ↔ LooksUp hier.now c.0 member.now kind Library }
+{
+    law_one_answer();
+    is_library(look_up(hier, c, kind, member))
+}
+
+/// Whether a look-up ends in the library.
+fn is_library(at: MethodAt) -> bool
+    ensures { IsTrue result ↔ (at ≡ Library) }
+{
+    at == MethodAt::Library
 }
 
 /// Whether no program class has the method that is looked up from the class of a name on.
@@ -68,16 +85,23 @@ pub(crate) fn finds_nothing(hier: &Hier, class: &Name, name: &Name, desc: &Name)
 }
 
 /// Refuses a call of reflection, and then one that starts a thread.
-pub(crate) fn check_call(alloc: Global, hier: &Hier, member: &MemberRef) -> Result<(), OpFault>
+pub(crate) fn check_call(
+    alloc: Global,
+    hier: &Hier,
+    c: ClassId,
+    kind: CallKind,
+    member: &MemberRef,
+) -> Result<(), OpFault>
+    requires { c.0 < length hier.now }
     ensures no_reflection { OnOk result (is_reflective member.now ≡ false) }
-    ensures no_thread { OnOk result (StartsThread hier.now member.now → ⊥) }
-    ensures refused { IfErr result (UnlessMemory (RefusesCall hier.now member.now)) }
+    ensures no_thread { OnOk result (StartsThread hier.now c.0 kind member.now → ⊥) }
+    ensures refused { IfErr result (UnlessMemory (RefusesCall hier.now c.0 kind member.now)) }
 {
     if is_reflective(member) {
         return Err(OpFault::Reflection);
     }
     let thread = Name::of(alloc, b"java/lang/Thread")?;
-    if starts_thread(hier, &thread, member) {
+    if starts_thread(hier, &thread, c, kind, member) {
         return Err(OpFault::ThreadStart);
     }
     Ok(())

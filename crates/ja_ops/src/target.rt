@@ -1,7 +1,7 @@
-ghost use Rattle.std.specs.Prelude.{◌≡◌, ◌<◌, ◌↔◌, length, IsTrue};
+ghost use Rattle.std.specs.Prelude.{◌≡◌, ◌<◌, ◌↔◌, length, IsTrue, Some};
 ghost use Rattle.ja_ir.specs.Lookup.{has_flag};
 ghost use Rattle.ja_supers.specs.LibraryTypes.{IsNearest};
-ghost use Rattle.ja_ops.specs.Targets.{FindsFrom, IsProperSuperclass, GoesAbove, BeginsAt, IsFound};
+ghost use Rattle.ja_ops.specs.Targets.{FindsFrom, IsProperSuperclass, GoesAbove, BeginsAt, FindsSpecial, LooksUp, IsFound};
 
 use crate::MemberRef;
 use ja_base::{ClassId, Name};
@@ -80,6 +80,26 @@ fn beginning<'a>(hier: &'a Hier, c: ClassId, member: &'a MemberRef) -> &'a Name
     }
 }
 
+/// Where the look-up of a special call in a class ends.
+fn find_special(hier: &Hier, c: ClassId, member: &MemberRef) -> MethodAt
+    requires { c.0 < length hier.now }
+    ensures { FindsSpecial hier.now c.0 member.now (Some result) }
+{
+    let class = beginning(hier, c, member);
+    find_from(hier, class, &member.name, &member.desc)
+}
+
+/// Where the look-up of a call in a class ends, before a receiver decides.
+pub(crate) fn look_up(hier: &Hier, c: ClassId, kind: CallKind, member: &MemberRef) -> MethodAt
+    requires { c.0 < length hier.now }
+    ensures { LooksUp hier.now c.0 member.now kind result }
+{
+    match kind {
+        CallKind::Special => find_special(hier, c, member),
+        _ => find_from(hier, &member.class, &member.name, &member.desc),
+    }
+}
+
 /// What a call in a class finds before it is made.
 pub(crate) fn found_by(
     hier: &Hier,
@@ -92,10 +112,7 @@ pub(crate) fn found_by(
 {
     match kind {
         CallKind::Static => Some(find_from(hier, &member.class, &member.name, &member.desc)),
-        CallKind::Special => {
-            let class = beginning(hier, c, member);
-            Some(find_from(hier, class, &member.name, &member.desc))
-        }
+        CallKind::Special => Some(find_special(hier, c, member)),
         _ => None,
     }
 }

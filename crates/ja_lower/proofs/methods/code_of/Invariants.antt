@@ -1,6 +1,10 @@
-use Rattle.std.proofs.Common.{zero}
-use Rattle.ja_lower.specs.Steps.{AreUpTo}
+use Rattle.std.proofs.Common.{◌≡◌, length}
+use Rattle.std.specs.Vec.Iter.{into_iter_items, into_iter_len}
+use Rattle.ja_lower.specs.Answers.{AreUnderWay}
 use Rattle.ja_lower.proofs.methods.code_of.Given as goal
 
-abbrev pub invariant-loop-c : goal.invariant-loop-c
-invariant-loop-c l = AreUpTo l.table.rows l.classes l.c zero l.code.methods l.code.sites
+abbrev pub invariant-loop-answer : goal.invariant-loop-answer
+invariant-loop-answer g l = record {
+  way : AreUnderWay l.table.rows l.classes l.code.methods l.code.sites (into_iter_items l.answer-iterator);
+  counted : into_iter_len l.answer-iterator ≡ length (into_iter_items l.answer-iterator);
+}

@@ -13,8 +13,8 @@ pub returns-in-Err-clause-refused : goal.returns-in-Err-clause-refused
 returns-in-Err-clause-refused c = λ raw at.
     let read = slice_get_read c.args.instrs.now _ c.args.k c.index-instrs-k.result refl c.requires.there c.index-instrs-k.is in
     let same : c.index-instrs-k.result ≡ raw = same-item c.args.instrs.now c.args.k c.args.k c.index-instrs-k.result raw refl read at in
-    subst (λ (x : RawInstr). (c.instr_refusal.result ≡ Memory) ⊎ IsRefusalOf c.args.scene.now.hier.now c.args.scene.now.pool.now x c.instr_refusal.result) same
-    (refusal-of c.args.scene.now.hier.now c.args.scene.now.pool.now c.index-instrs-k.result c.in-Err.fault c.instr_refusal.result c.instr_refusal.ensures c.in-Err.ensures.refused)
+    subst (λ (x : RawInstr). (c.instr_refusal.result ≡ Memory) ⊎ IsRefusalOf c.args.scene.now.hier.now c.args.scene.now.class.0 c.args.scene.now.pool.now x c.instr_refusal.result) same
+    (refusal-of c.args.scene.now.hier.now c.args.scene.now.class.0 c.args.scene.now.pool.now c.index-instrs-k.result c.in-Err.fault c.instr_refusal.result c.instr_refusal.ensures c.in-Err.ensures.refused)
 
 pub returns-clause-ok : goal.returns-clause-ok
 returns-clause-ok c = λ raw at.
@@ -38,5 +38,5 @@ pub returns-clause-clean : goal.returns-clause-clean
 returns-clause-clean c = λ raw at.
     let read = slice_get_read c.args.instrs.now _ c.args.k c.index-instrs-k.result refl c.requires.there c.index-instrs-k.is in
     let same : c.index-instrs-k.result ≡ raw = same-item c.args.instrs.now c.args.k c.args.k c.index-instrs-k.result raw refl read at in
-    subst (λ (x : RawInstr). IsUnrefused c.args.scene.now.hier.now c.args.scene.now.pool.now x) same
+    subst (λ (x : RawInstr). IsUnrefused c.args.scene.now.hier.now c.args.scene.now.class.0 c.args.scene.now.pool.now x) same
     (λ fault. c.law_one_operation.ensures.not_both c.args.scene.now.hier.now c.args.scene.now.table.now.rows c.args.scene.now.class.0 c.args.scene.now.pool.now c.index-instrs-k.result (option_copied c.args.before) c.in-Ok.op fault c.in-Ok.ensures.ok)

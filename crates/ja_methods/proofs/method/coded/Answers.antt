@@ -19,7 +19,7 @@ use Rattle.ja_methods.proofs.Coded.{code-ordered, code-few, kinds-refused, instr
 use Rattle.ja_methods.proofs.method.coded.Goals as goal
 
 pub returns-in-Err-clause-refused : goal.returns-in-Err-clause-refused
-returns-in-Err-clause-refused c = kinds-refused c.args.hier.now c.args.class.now c.args.m c.in-Err.fault c.kind_refusal.result c.kind_refusal.ensures c.in-Err.ensures.fault
+returns-in-Err-clause-refused c = kinds-refused c.args.hier.now c.args.class.now c.args.c.0 c.args.m c.in-Err.fault c.kind_refusal.result c.kind_refusal.ensures c.in-Err.ensures.fault
 
 pub instrs_of-requires-clause-order : goal.instrs_of-requires-clause-order
 instrs_of-requires-clause-order c =
@@ -51,9 +51,9 @@ returns-in_err-list-clause-refused c =
     let p = err_from_is_err_and c.from_residual.result c.from_residual.ensures.1 in
     let pool : c.class.inside.pool ≡ c.args.class.now.pool = ap (λ (x : ClassSpelled). x.pool) c.class.view_is in
     rw (p.1, p.2)
-    (instr-refused c.args.hier.now c.args.class.now c.args.m c.args.code.now c.in-Ok.kinds c.in_err-list.field-0.0 c.requires.code c.in-Ok.ensures.ok
-    (subst (λ (t : Table). (c.in_err-list.field-0.0 ≡ faults.Memory) ⊎ IsFirstRefusal c.args.hier.now t c.args.code.now.instrs c.in_err-list.field-0.0) pool
-    (subst (λ (list : List RawInstr). (c.in_err-list.field-0.0 ≡ faults.Memory) ⊎ IsFirstRefusal c.args.hier.now c.class.inside.pool list c.in_err-list.field-0.0) c.as_slice-instrs.ensures c.in_err-list.ensures.refused)))
+    (instr-refused c.args.hier.now c.args.class.now c.args.c.0 c.args.m c.args.code.now c.in-Ok.kinds c.in_err-list.field-0.0 c.requires.code c.in-Ok.ensures.ok
+    (subst (λ (t : Table). (c.in_err-list.field-0.0 ≡ faults.Memory) ⊎ IsFirstRefusal c.args.hier.now c.args.c.0 t c.args.code.now.instrs c.in_err-list.field-0.0) pool
+    (subst (λ (list : List RawInstr). (c.in_err-list.field-0.0 ≡ faults.Memory) ⊎ IsFirstRefusal c.args.hier.now c.args.c.0 c.class.inside.pool list c.in_err-list.field-0.0) c.as_slice-instrs.ensures c.in_err-list.ensures.refused)))
 
 pub handlers_of-requires-clause-order : goal.handlers_of-requires-clause-order
 handlers_of-requires-clause-order c =

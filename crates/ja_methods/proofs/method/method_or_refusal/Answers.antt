@@ -31,7 +31,7 @@ returns-in_err-content-clause-refused c =
     let inside : ClassSpelled = record { head = c.class.inside.head; pool = c.class.inside.pool; methods = c.class.inside.methods } in
     let p = err_from_is_err_and c.from_residual.result c.from_residual.ensures.1 in
     rw (p.1, p.2)
-    (code-refused c.args.hier.now c.args.class.now c.args.m c.at-head.result.now c.in_err-content.field-0.0
+    (code-refused c.args.hier.now c.args.class.now c.args.c.0 c.args.m c.at-head.result.now c.in_err-content.field-0.0
     (moved-head inside c.args.class.now c.class.view_is c.args.m c.from.result c.from.ensures c.at-head.result.now c.at-head.ensures) (sym c.is_native.ensures ∙ c.if-is_native.false) c.in_err-content.ensures.refused)
 
 pub sites_of-requires : goal.sites_of-requires

@@ -8,10 +8,10 @@ use Rattle.ja_lower.specs.Program.{IsProgramOf}
 use Rattle.ja_lower.proofs.Described.{described}
 use Rattle.ja_lower.proofs.Named.{whole-parts}
 use Rattle.ja_lower.proofs.WholeProgram.{whole-program}
-use Rattle.ja_lower.proofs.program.lower.Goals as goal
+use Rattle.ja_lower.proofs.program.lower_in_pieces.Goals as goal
 
 pub new-requires : goal.new-requires
-new-requires c =
+new-requires g c =
     let p : Parts = record { classes = c.in_ok-infos.infos; methods = c.in_ok-code.code.methods; fields = c.in_ok-fields.fields; entries = c.in_ok-entries.entries; sites = c.in_ok-code.code.sites } in
     let program : IsProgramOf c.args.names.now c.args.classes.now c.args.t.now p =
     record {

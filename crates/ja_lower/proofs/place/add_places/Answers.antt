@@ -1,10 +1,11 @@
-use Rattle.std.proofs.Common.{◌≡◌, ℕ, ◌<◌, length, refl, ap, subst, sym, ◌∙◌, arith}
+use Rattle.std.proofs.Common.{◌≡◌, ℕ, suc, ◌+◌, ◌<◌, length, refl, ap, subst, arith}
 use Rattle.std.specs.Prelude.{Some, slice_get}
-use Rattle.std.proofs.lemmas.Option.{same_Some, slice_get_read}
+use Rattle.std.proofs.lemmas.Option.{slice_get_read}
 use Rattle.ja_class.specs.Meaning.{ClassSpelled}
-use Rattle.ja_lower.specs.Steps.{AreUpTo}
-use Rattle.ja_lower.proofs.UpTo.{number-fits, past}
-use Rattle.ja_lower.proofs.methods.add_class.Goals as goal
+use Rattle.ja_lower.specs.Places.{PlacesUpTo, next_class}
+use Rattle.ja_lower.proofs.Answered.{place-more}
+use Rattle.ja_lower.proofs.UpTo.{number-fits}
+use Rattle.ja_lower.proofs.place.add_places.Goals as goal
 
 pub overflow_cast-m : goal.overflow_cast-m
 overflow_cast-m c =
@@ -12,15 +13,16 @@ overflow_cast-m c =
     let lt : c.loop-m.m < length c.index-classes-c.result.head.methods = omega (arith, ap (λ (x : ClassSpelled). length x.head.methods) c.class.view_is) in
     omega (arith, number-fits c.args.classes.now c.args.c c.loop-m.m c.index-classes-c.result at lt, c.requires.numbered)
 
-pub add_method-requires-clause-declared : goal.add_method-requires-clause-declared
-add_method-requires-clause-declared c class e =
+pub loop-m-preserved : goal.loop-m-preserved
+loop-m-preserved c =
     let at : slice_get c.args.classes.now c.args.c ≡ Some c.index-classes-c.result = slice_get_read c.args.classes.now (length c.args.classes.now) c.args.c c.index-classes-c.result refl c.requires.inside c.index-classes-c.is in
     let lt : c.loop-m.m < length c.index-classes-c.result.head.methods = omega (arith, ap (λ (x : ClassSpelled). length x.head.methods) c.class.view_is) in
-    subst (λ (x : ClassSpelled). c.loop-m.m < length x.head.methods) (same_Some c.index-classes-c.result class (sym at ∙ e)) lt
+    let one : suc c.loop-m.m ≡ c.loop-m.m + 1 = omega arith in
+    subst (λ (n : ℕ). PlacesUpTo c.args.classes.now c.args.c n c.push.new.self) one
+    (place-more c.args.classes.now c.args.c c.loop-m.m c.index-classes-c.result (record { class = c.args.c; method = c.loop-m.m }) c.loop-m.places c.push.new.self at lt c.loop-m.invariant refl refl c.in_ok-push.ensures.ok)
 
-pub returns-clause-added : goal.returns-clause-added
-returns-clause-added c =
+pub returns : goal.returns
+returns c =
     let at : slice_get c.args.classes.now c.args.c ≡ Some c.index-classes-c.result = slice_get_read c.args.classes.now (length c.args.classes.now) c.args.c c.index-classes-c.result refl c.requires.inside c.index-classes-c.is in
     let end : c.loop-m.m ≡ length c.index-classes-c.result.head.methods = omega (arith, ap (λ (x : ClassSpelled). length x.head.methods) c.class.view_is) in
-    past c.args.table.now.rows c.args.classes.now c.args.c c.index-classes-c.result c.loop-m.code.methods c.loop-m.code.sites at
-    (subst (λ (n : ℕ). AreUpTo c.args.table.now.rows c.args.classes.now c.args.c n c.loop-m.code.methods c.loop-m.code.sites) end c.loop-m.invariant)
+    next_class c.index-classes-c.result at end c.loop-m.invariant
