@@ -6,20 +6,15 @@
 # nodes are those that BuDDy made. Where no BuDDy is installed, Debian's package is fetched for this run and unpacked to
 # a folder of its own. Each figure is the best of some runs; the last says how many times as fast as ours it is.
 # Usage: bench/bdd.sh [RUNS]
-set -euo pipefail
-top=$(cd "$(dirname "$0")/.." && pwd)
+. "$(dirname "$0")/common.sh"
 runs=${1:-5}
-work=$(mktemp -d)
-trap 'rm -rf "$work"' EXIT
+ours=$(program bdd_bench)
 cd "$work"
 if ! cc -O2 -o buddy "$top/bench/bdd.c" -lbdd -lm 2>/dev/null; then
-    chmod 755 "$work"
     apt-get download libbdd-dev libbdd0c2 >/dev/null 2>&1
     for package in *.deb; do dpkg -x "$package" unpacked; done
     cc -O2 -Iunpacked/usr/include -o buddy "$top/bench/bdd.c" "$(find unpacked -name libbdd.a)" -lm
 fi
-(cd "$top/crates/bdd_bench" && rt run >/dev/null 2>&1)
-ours="$top/crates/bdd_bench/out/bdd_bench"
 
 # What a program writes in the run that took it the fewest nanoseconds.
 best() {

@@ -3,16 +3,11 @@
 # folder of their own, and what javac --release 8 makes of a source with most kinds of instructions. Prints how many were
 # read and how many refused, by the number of the refusal, and the rate beside that of javap on the same files.
 # Usage: bench/classes.sh [ROUNDS]
-set -eu
-top=$(cd "$(dirname "$0")/.." && pwd)
+. "$(dirname "$0")/common.sh"
 rounds=${1:-10}
-work=$(mktemp -d)
-trap 'rm -rf "$work"' EXIT
-chmod 755 "$work"
+reader=$(program class_bench)
 cd "$work"
 "$top/bench/real_classes.sh" .
-(cd "$top/crates/class_bench" && rt run >/dev/null 2>&1 || true)
-reader="$top/crates/class_bench/out/class_bench"
 echo "Debian packages:"
 "$reader" classes "$rounds" | tee result
 awk -v rounds="$rounds" '/^read/ { bytes = $4; files = $2 } /^refused/ { files += $4 } /^nanoseconds/ { pools = $3 / 1e9; classes = $5 / 1e9 }

@@ -3,12 +3,8 @@
 # are there: javap reads each class, and fails on any complaint; then java loads and links each class, with its version
 # number lowered to 49, since the listings spell no stack maps. What must not pass there: the classes of wrong_kind.txt.
 # Usage: bench/listings.sh
-set -eu
-top=$(cd "$(dirname "$0")/.." && pwd)
-work=$(mktemp -d)
-trap 'rm -rf "$work"' EXIT
-(cd "$top/crates/make_classes" && rt run >/dev/null 2>&1 || true)
-maker="$top/crates/make_classes/out/make_classes"
+. "$(dirname "$0")/common.sh"
+maker=$(program make_classes)
 for listing in "$top"/examples/listings/*.txt; do
     name=$(basename "$listing" .txt)
     "$maker" "$listing" "$work/$name" >"$work/said" || { echo "$name: $(cat "$work/said")"; exit 1; }

@@ -3,16 +3,11 @@
 # and how many are refused, by the number of the refusal; then how long all that are lowered take as one folder, on one
 # processor and on all. Fails where a class is refused by kinds (62 to 64): each of them was verified when it was compiled.
 # Usage: bench/lower.sh [ROUNDS]
-set -eu
-top=$(cd "$(dirname "$0")/.." && pwd)
+. "$(dirname "$0")/common.sh"
 rounds=${1:-10}
-work=$(mktemp -d)
-trap 'rm -rf "$work"' EXIT
-chmod 755 "$work"
+lowerer=$(program lower_bench)
 cd "$work"
 "$top/bench/real_classes.sh" .
-(cd "$top/crates/lower_bench" && rt run >/dev/null 2>&1 || true)
-lowerer="$top/crates/lower_bench/out/lower_bench"
 
 # The counts of a folder, and a complaint where kinds refuse a class.
 count() {

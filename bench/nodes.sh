@@ -2,15 +2,12 @@
 # Nodes that are asked for again per second: the shared table with 1, 2 and 4 threads, beside a
 # hash map of Rust's std in one thread, on one sequence. Each figure is the best of some runs.
 # Usage: bench/nodes.sh [RUNS [MAKES]]
-set -euo pipefail
-cd "$(dirname "$0")/.."
+. "$(dirname "$0")/common.sh"
 runs=${1:-5}
 makes=${2:-8000000}
-(cd crates/node_bench && rt run > /dev/null 2>&1)
-table=crates/node_bench/out/node_bench
-plain=$(mktemp)
-trap 'rm -f "$plain"' EXIT
-rustc --edition 2021 -O -o "$plain" bench/hash_map_nodes.rs
+table=$(program node_bench)
+plain="$work/hash_map_nodes"
+rustc --edition 2021 -O -o "$plain" "$top/bench/hash_map_nodes.rs"
 
 # The fewest nanoseconds that asking again took.
 best() {
