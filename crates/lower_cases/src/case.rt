@@ -59,14 +59,16 @@ impl From<TableFault> for CaseFault {
 }
 
 /// What comes of a listing with a table, as lines: the text of the program, the line of the refusal, or `item`
-/// or `unread` with a number where the listing makes no classes.
+/// or `unread` with a number where the listing makes no classes. A thread of its own lowers `least` methods or
+/// more, where that is not left to `lower`.
 pub fn case_text<R: Threads + Sync>(
     rt: &R,
     alloc: Global,
     listing: &[u8],
     table: Option<&[u8]>,
+    least: Option<usize>,
 ) -> Result<String, Memory> {
-    match program_of(rt, alloc, listing, table) {
+    match program_of(rt, alloc, listing, table, least) {
         Ok(text) => Ok(text),
         Err(CaseFault::Refused(refusal)) => refusal_text(alloc, &refusal),
         Err(CaseFault::Item(number)) => Ok(format!(in alloc; "item {number}\n")?),
@@ -81,11 +83,15 @@ fn program_of<R: Threads + Sync>(
     alloc: Global,
     listing: &[u8],
     table: Option<&[u8]>,
+    least: Option<usize>,
 ) -> Result<String, CaseFault> {
     let table = table_of(alloc, table)?;
     let files = class_files(alloc, listing)?;
     let folder = ClassFolder::new(alloc).with_files(alloc, files.as_slice())?;
-    let program = folder.lower(rt, alloc, &table)?;
+    let program = match least {
+        None => folder.lower(rt, alloc, &table)?,
+        Some(least) => folder.lower_in_pieces(rt, alloc, &table, least)?,
+    };
     Ok(text_of(alloc, &program)?)
 }
 

@@ -6,6 +6,8 @@
 #![tactic(auto)]
 
 mod case;
+#[cfg(test)]
+mod tests;
 
 use case::case_text;
 use ja_base::{File, Name};
@@ -32,6 +34,7 @@ fn main(rt: HostRuntime) -> io::Result<()> {
             alloc,
             case.bytes.as_slice(),
             table_of(tables.as_slice(), name),
+            None,
         );
         println!(rt; "== {}", str::from_utf8(name).unwrap_or("?"))?;
         print!(rt;
