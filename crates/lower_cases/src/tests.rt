@@ -10,8 +10,8 @@ const END: u64 = 600;
 /// More methods than there are: so all are one piece, for one thread.
 const ONE_PIECE: Option<usize> = Some(usize::MAX);
 
-/// A piece for each method.
-const EACH: Option<usize> = Some(1);
+/// Each method is worth a thread: so there are as many pieces as there may be.
+const MOST_PIECES: Option<usize> = Some(1);
 
 /// The text of the class with a number. One of its four methods reads a field of the next class, and one calls
 /// it. In a wrong class the last method adds what is no number.
@@ -66,7 +66,7 @@ fn one_program_in_one_thread_and_in_several(rt: HostRuntime) -> Result<(), Fail>
     assert_eq!(rt; count(alone.as_str(), "site "), END - FIRST);
     let together = case_text(&rt, alloc, listing, None, None)?;
     assert!(rt; together.as_str() == alone.as_str());
-    let in_many_pieces = case_text(&rt, alloc, listing, None, EACH)?;
+    let in_many_pieces = case_text(&rt, alloc, listing, None, MOST_PIECES)?;
     assert!(rt; in_many_pieces.as_str() == alone.as_str());
     Ok(())
 }
@@ -82,6 +82,9 @@ fn first_refusal_in_one_thread_and_in_several(rt: HostRuntime) -> Result<(), Fai
         first
     );
     assert_eq!(rt; case_text(&rt, alloc, listing, None, None)?.as_str(), first);
-    assert_eq!(rt; case_text(&rt, alloc, listing, None, EACH)?.as_str(), first);
+    assert_eq!(rt;
+        case_text(&rt, alloc, listing, None, MOST_PIECES)?.as_str(),
+        first
+    );
     Ok(())
 }
