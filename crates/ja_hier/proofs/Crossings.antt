@@ -4,11 +4,12 @@ use Rattle.std.specs.Prelude.{Some, Contains, map, slice_get}
 use Rattle.std.proofs.lemmas.Option.{slice_get_within}
 use Rattle.ja_ir.specs.declared.head.ClassHead.{ClassHead}
 use Rattle.ja_ir.specs.declared.head.HeadMethod.{HeadMethod}
+use Rattle.ja_index.specs.Numbers.{numbers_at}
+use Rattle.ja_index.specs.declared.numbers.NumbersByName.{NumbersByName}
 use Rattle.ja_hier.specs.declared.starts.Member.TheVariants.{Method}
 use Rattle.ja_hier.specs.Faults.{Crosses, CrossesPackage, is_virtual}
-use Rattle.ja_hier.specs.Index.{HidesAt, IsIndexOf, classes_at}
+use Rattle.ja_hier.specs.Index.{HidesAt, IsIndexOf}
 use Rattle.ja_hier.proofs.Indexed.{contains-map}
-use Rattle.std.specs.BTreeMap.{BTreeMap}
 
 -- what a method of a class does that redeclares a package-private method
 pub crosses-at : (heads : List ClassHead) (c k : ℕ) (head : ClassHead) (method : HeadMethod) → slice_get heads c ≡ Some head → slice_get head.methods k ≡ Some method → CrossesPackage heads c k → Crosses heads c head method
@@ -30,12 +31,12 @@ pub crosses-from : (heads : List ClassHead) (c : ℕ) (head : ClassHead) (method
 crosses-from heads c head method d virtual at = record { redeclares = virtual; d = d; superclass = at.superclass; above = at.above; found = at.found; hides = at.hides }
 
 -- a class whose method is redeclared is noted for the name
-pub crosses-noted : (heads : List ClassHead) (c : ℕ) (head : ClassHead) (method : HeadMethod) (index : BTreeMap (List ℕ) (List ℕ)) → IsIndexOf Method heads index → Crosses heads c head method
-    → (d : ℕ) × Contains (classes_at index method.name) d × HidesAt heads c head method d
+pub crosses-noted : (heads : List ClassHead) (c : ℕ) (head : ClassHead) (method : HeadMethod) (index : NumbersByName) → IsIndexOf Method heads index → Crosses heads c head method
+    → (d : ℕ) × Contains (numbers_at index method.name) d × HidesAt heads c head method d
 crosses-noted heads c head method index are crosses =
     let listed : Contains (map (λ (m : HeadMethod). m.name) crosses.above.methods) crosses.hides.hidden.name =
     contains-map (λ (m : HeadMethod). m.name) crosses.above.methods crosses.hides.hidden crosses.hides.declared in (
       crosses.d,
-      subst (λ (name : List ℕ). Contains (classes_at index name) crosses.d) crosses.hides.same_name (are.complete crosses.hides.hidden.name crosses.d crosses.above crosses.found listed),
+      subst (λ (name : List ℕ). Contains (numbers_at index name) crosses.d) crosses.hides.same_name (are.complete crosses.hides.hidden.name crosses.d crosses.above crosses.found listed),
       record { superclass = crosses.superclass; above = crosses.above; found = crosses.found; hides = crosses.hides },
     )

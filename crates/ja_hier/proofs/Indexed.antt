@@ -1,22 +1,22 @@
 -- What the index of members has.
-use Rattle.std.proofs.Common.{◌≡◌, ℕ, zero, suc, ◌+◌, ◌<◌, ◌⊎◌, inl, inr, Bool, true, false, cond, List, [], ◌∷◌, ◌++◌, length, map, take, get_or, unwrap_or, is_eq, nat_cmp, refl, sym, ap, ◌∙◌, subst, arith}
+use Rattle.std.proofs.Common.{◌≡◌, ℕ, zero, suc, ◌+◌, ◌<◌, ◌⊎◌, inl, inr, Bool, true, false, cond, List, [], ◌∷◌, ◌++◌, length, map, take, get_or, refl, sym, ap, ◌∙◌, subst, append-nil, arith}
 use Rattle.std.specs.Prelude.{◌==◌, ◌&&◌, not, Option, Some, None, Contains, bytes_eq, slice_get}
-use Rattle.std.specs.Cmp.Lexicographic.{slice_cmp}
-use Rattle.std.specs.BTreeMap.{BTreeMap, get}
 use Rattle.std.proofs.lemmas.Bool.{cases_Bool, cases_lt, and_parts, eqb-true}
-use Rattle.std.proofs.lemmas.List.{take_more, get_or_default}
+use Rattle.std.proofs.lemmas.List.{length-map, take_more, get_or_default}
 use Rattle.std.proofs.lemmas.List.Elements.{Contains-push, Contains-push_cases, Contains-append_left, Contains-get_or}
 use Rattle.std.proofs.lemmas.List.Quantifiers.{position-Some}
-use Rattle.std.proofs.lemmas.Map.Text.{is_eq-slice_cmp}
-use Rattle.std.proofs.lemmas.Option.{slice_get_within}
+use Rattle.std.proofs.lemmas.Option.{slice_get_within, get_or_from_slice_get}
 use Rattle.std.proofs.lemmas.Slice.Eq.{bytes_eq-Decides}
 use Rattle.ja_ir.specs.declared.head.ClassHead.{ClassHead}
 use Rattle.ja_ir.specs.declared.head.HeadField.{HeadField}
 use Rattle.ja_ir.specs.declared.head.HeadMethod.{HeadMethod}
+use Rattle.ja_index.specs.Numbers.{numbers_at, number_if}
+use Rattle.ja_index.specs.declared.numbers.NumbersByName.{NumbersByName}
 use Rattle.ja_hier.specs.declared.skip.Skip.{Skip}
 use Rattle.ja_hier.specs.declared.starts.Member.{Member}
 use Rattle.ja_hier.specs.declared.starts.Member.TheVariants.{Field, Method}
-use Rattle.ja_hier.specs.Index.{classes_at, member_names, Covers, IsIndexOf, IsNoted}
+use Rattle.ja_hier.specs.Index.{member_names, Covers, IsIndexOf, IsNoted}
+use Rattle.ja_hier.specs.Members.{count_of}
 use Rattle.ja_hier.specs.LookUps.{fields_of, methods_of, field_in, method_in, skips}
 use Rattle.ja_supers.specs.Supertypes.{AreSupertypes}
 use Rattle.ja_supers.proofs.Falls.{supertype-target}
@@ -66,12 +66,12 @@ method-listed heads skip name desc c k e =
           (contains-map (λ (m : HeadMethod). m.name) there.0.methods method (subst (λ (o : Option ClassHead). Contains (methods_of o) method) there.1 in')),
     )
 
-pub field-noted : (heads : List ClassHead) (index : BTreeMap (List ℕ) (List ℕ)) (name desc : List ℕ) (c k : ℕ) → IsIndexOf Field heads index → field_in heads name desc c ≡ Some k → Contains (classes_at index name) c
+pub field-noted : (heads : List ClassHead) (index : NumbersByName) (name desc : List ℕ) (c k : ℕ) → IsIndexOf Field heads index → field_in heads name desc c ≡ Some k → Contains (numbers_at index name) c
 field-noted heads index name desc c k are e =
     let listed : (head : ClassHead) × (slice_get heads c ≡ Some head) × Contains (member_names Field head) name = field-listed heads name desc c k e in
     are.complete name c listed.0 listed.1 listed.2
 
-pub method-noted : (heads : List ClassHead) (index : BTreeMap (List ℕ) (List ℕ)) (skip : Skip) (name desc : List ℕ) (c k : ℕ) → IsIndexOf Method heads index → method_in heads skip name desc c ≡ Some k → Contains (classes_at index name) c
+pub method-noted : (heads : List ClassHead) (index : NumbersByName) (skip : Skip) (name desc : List ℕ) (c k : ℕ) → IsIndexOf Method heads index → method_in heads skip name desc c ≡ Some k → Contains (numbers_at index name) c
 method-noted heads index skip name desc c k are e =
     let listed : (head : ClassHead) × (slice_get heads c ≡ Some head) × Contains (member_names Method head) name = method-listed heads skip name desc c k e in
     are.complete name c listed.0 listed.1 listed.2
@@ -94,88 +94,79 @@ supertypes-cover heads c listed supertypes are = record {
 
 -- ---- how the index is made
 
--- a name is noted: its classes are taken out, and put back with one more
-noted-at : (before without after : List ℕ → Option (List ℕ)) (listed name classes : List ℕ) (c : ℕ)
-    → ((q : List ℕ) → without q ≡ cond (is_eq (slice_cmp nat_cmp listed q)) None (before q))
-    → ((q : List ℕ) → after q ≡ cond (is_eq (slice_cmp nat_cmp listed q)) (Some classes) (without q))
-    → classes ≡ unwrap_or (before listed) [] ++ c ∷ []
-    → ((listed ≡ name) × (unwrap_or (after name) [] ≡ unwrap_or (before name) [] ++ c ∷ [])) ⊎ ((listed ≡ name → ⊥) × (unwrap_or (after name) [] ≡ unwrap_or (before name) []))
-noted-at before without after listed name classes c removed inserted is =
-    elim (cases_Bool (bytes_eq listed name)) [
-      | inl is_so ↦
-          let same : listed ≡ name = (bytes_eq-Decides listed name).0 is_so in
-          let at : is_eq (slice_cmp nat_cmp listed name) ≡ true = is_eq-slice_cmp listed name ∙ is_so in
-          inl (same, ap (λ (o : Option (List ℕ)). unwrap_or o []) (inserted name ∙ ap (λ (b : Bool). cond b (Some classes) (without name)) at) ∙ is ∙ ap (λ (q : List ℕ). unwrap_or (before q) [] ++ c ∷ []) same)
-      | inr not_so ↦
-          let apart : is_eq (slice_cmp nat_cmp listed name) ≡ false = is_eq-slice_cmp listed name ∙ not_so in
-          inr (
-            λ same. let t : bytes_eq listed name ≡ true = (bytes_eq-Decides listed name).1 same in cc (t, not_so),
-            ap (λ (o : Option (List ℕ)). unwrap_or o []) (inserted name ∙ ap (λ (b : Bool). cond b (Some classes) (without name)) apart ∙ removed name ∙ ap (λ (b : Bool). cond b None (before name)) apart),
-          )
-    ]
+only-one : (x y : List ℕ) → Contains (x ∷ []) y → x ≡ y
+only-one x y (zero, lt, e) = e
+only-one x y (suc k, lt, e) = absurd (omega arith)
 
-pub noted-one : (old new : BTreeMap (List ℕ) (List ℕ)) (without : List ℕ → Option (List ℕ)) (listed classes : List ℕ) (c : ℕ)
-    → ((q : List ℕ) → without q ≡ cond (is_eq (slice_cmp nat_cmp listed q)) None (get (slice_cmp nat_cmp) old q))
-    → ((q : List ℕ) → get (slice_cmp nat_cmp) new q ≡ cond (is_eq (slice_cmp nat_cmp listed q)) (Some classes) (without q))
-    → classes ≡ unwrap_or (get (slice_cmp nat_cmp) old listed) [] ++ c ∷ [] → IsNoted c (listed ∷ []) old new
-noted-one old new without listed classes c removed inserted is = record {
-  kept = λ name d in'. elim (at name) [
-    | inl one ↦ subst (λ (xs : List ℕ). Contains xs d) (sym one.1) (Contains-append_left (classes_at old name) (c ∷ []) d in')
-    | inr other ↦ subst (λ (xs : List ℕ). Contains xs d) (sym other.1) in'
-  ];
+-- a class is noted for a name, behind those that are noted
+pub noted-one : (old new : NumbersByName) (listed : List ℕ) (c : ℕ) → ((name : List ℕ) → numbers_at new name ≡ numbers_at old name ++ number_if c listed name) → IsNoted c (listed ∷ []) old new
+noted-one old new listed c is = record {
+  kept = λ name d in'. subst (λ (xs : List ℕ). Contains xs d) (sym (is name)) (Contains-append_left (numbers_at old name) (number_if c listed name) d in');
   only = λ name d in'. elim (at name) [
-    | inl one ↦ elim (Contains-push_cases (classes_at old name) c d (subst (λ (xs : List ℕ). Contains xs d) one.1 in')) [ inl before ↦ inl before | inr last ↦ inr (sym last) ]
+    | inl one ↦ elim (Contains-push_cases (numbers_at old name) c d (subst (λ (xs : List ℕ). Contains xs d) one.1 in')) [ inl before ↦ inl before | inr last ↦ inr (sym last) ]
     | inr other ↦ inl (subst (λ (xs : List ℕ). Contains xs d) other.1 in')
   ];
   noted = λ name in'. elim (at name) [
-    | inl one ↦ subst (λ (xs : List ℕ). Contains xs c) (sym one.1) (Contains-push (classes_at old name) c)
-    | inr other ↦ absurd (other.0 (single listed name in'))
+    | inl one ↦ subst (λ (xs : List ℕ). Contains xs c) (sym one.1) (Contains-push (numbers_at old name) c)
+    | inr other ↦ absurd (other.0 (only-one listed name in'))
   ];
 }
   where
-    at : (name : List ℕ) → ((listed ≡ name) × (classes_at new name ≡ classes_at old name ++ c ∷ [])) ⊎ ((listed ≡ name → ⊥) × (classes_at new name ≡ classes_at old name))
-    at name = noted-at (get (slice_cmp nat_cmp) old) without (get (slice_cmp nat_cmp) new) listed name classes c removed inserted is
+    at : (name : List ℕ) → ((listed ≡ name) × (numbers_at new name ≡ numbers_at old name ++ c ∷ [])) ⊎ ((listed ≡ name → ⊥) × (numbers_at new name ≡ numbers_at old name))
+    at name = elim (cases_Bool (bytes_eq listed name)) [
+      | inl is_so ↦ inl ((bytes_eq-Decides listed name).0 is_so, is name ∙ ap (λ (b : Bool). numbers_at old name ++ cond b (c ∷ []) []) is_so)
+      | inr not_so ↦
+          inr (
+            λ same. let t : bytes_eq listed name ≡ true = (bytes_eq-Decides listed name).1 same in cc (t, not_so),
+            is name ∙ ap (λ (b : Bool). numbers_at old name ++ cond b (c ∷ []) []) not_so ∙ append-nil (numbers_at old name),
+          )
+    ]
 
-    single : (x y : List ℕ) → Contains (x ∷ []) y → x ≡ y
-    single x y (zero, lt, e) = e
-    single x y (suc k, lt, e) = absurd (omega arith)
+-- a class that is noted for a name already
+pub noted-again : (index : NumbersByName) (listed : List ℕ) (c : ℕ) → Contains (numbers_at index listed) c → IsNoted c (listed ∷ []) index index
+noted-again index listed c there = record {
+  kept = λ name d in'. in';
+  only = λ name d in'. inl in';
+  noted = λ name in'. subst (λ (n : List ℕ). Contains (numbers_at index n) c) (only-one listed name in') there;
+}
 
-pub noted-none : (c : ℕ) (index : BTreeMap (List ℕ) (List ℕ)) → IsNoted c [] index index
+pub noted-none : (c : ℕ) (index : NumbersByName) → IsNoted c [] index index
 noted-none c index = record { kept = λ name d in'. in'; only = λ name d in'. inl in'; noted = λ name in'. absurd (omega (arith, in'.1)) }
 
 -- one name more
-pub noted-more : {X : Type 0} (f : X → List ℕ) (c : ℕ) (xs : List X) (i : ℕ) (x : X) (initial old new : BTreeMap (List ℕ) (List ℕ)) → i < length xs → x ≡ get_or xs i x
-    → IsNoted c (map f (take i xs)) initial old → IsNoted c (f x ∷ []) old new → IsNoted c (map f (take (i + 1) xs)) initial new
-noted-more {X} f c xs i x initial old new lt read are one = record {
+pub take-more : (names : List (List ℕ)) (i : ℕ) (name : List ℕ) → slice_get names i ≡ Some name → take (i + 1) names ≡ take i names ++ name ∷ []
+take-more names i name found =
+    take_more names i name (slice_get_within names i name found) ∙ ap (λ (n : List ℕ). take i names ++ n ∷ []) (get_or_from_slice_get names i name name found)
+
+pub noted-more : (c : ℕ) (names : List (List ℕ)) (i : ℕ) (listed : List ℕ) (initial old new : NumbersByName) → slice_get names i ≡ Some listed
+    → IsNoted c (take i names) initial old → IsNoted c (listed ∷ []) old new → IsNoted c (take (i + 1) names) initial new
+noted-more c names i listed initial old new found are one = record {
   kept = λ name d in'. one.kept name d (are.kept name d in');
   only = λ name d in'. elim (one.only name d in') [ inl before ↦ are.only name d before | inr same ↦ inr same ];
-  noted = λ name in'. elim (Contains-push_cases (map f (take i xs)) (f x) name (subst (λ (ys : List (List ℕ)). Contains ys name) (all f xs i x lt read) in')) [
+  noted = λ name in'. elim (Contains-push_cases (take i names) listed name (subst (λ (ys : List (List ℕ)). Contains ys name) (take-more names i listed found) in')) [
     | inl before ↦ one.kept name c (are.noted name before)
     | inr last ↦ one.noted name (0, omega arith, last)
   ];
 }
-  where
-    map-push : {Y : Type 0} (g : Y → List ℕ) (ys : List Y) (y : Y) → map g (ys ++ y ∷ []) ≡ map g ys ++ g y ∷ []
-    map-push g [] y = refl
-    map-push g (z ∷ ys) y = ap (λ (l : List (List ℕ)). g z ∷ l) (map-push g ys y)
 
-    all : {Y : Type 0} (g : Y → List ℕ) (ys : List Y) (j : ℕ) (y : Y) → j < length ys → y ≡ get_or ys j y → map g (take (j + 1) ys) ≡ map g (take j ys) ++ g y ∷ []
-    all {Y} g ys j y below is = ap (map g) (take_more ys j y below ∙ ap (λ (z : Y). take j ys ++ z ∷ []) (sym is)) ∙ map-push g (take j ys) y
+pub member-count : (member : Member) (head : ClassHead) → count_of member head ≡ length (member_names member head)
+member-count Field head = sym (length-map head.fields (λ (field : HeadField). field.name))
+member-count Method head = sym (length-map head.methods (λ (method : HeadMethod). method.name))
 
 -- the index of some classes, with one class more
-pub record IsIndexBelow (member : Member) (heads : List ClassHead) (n : ℕ) (index : BTreeMap (List ℕ) (List ℕ)) : Type 0 where
-  pub inside : (name : List ℕ) (c : ℕ) → Contains (classes_at index name) c → c < n
-  pub complete : (name : List ℕ) (c : ℕ) (head : ClassHead) → c < n → slice_get heads c ≡ Some head → Contains (member_names member head) name → Contains (classes_at index name) c
+pub record IsIndexBelow (member : Member) (heads : List ClassHead) (n : ℕ) (index : NumbersByName) : Type 0 where
+  pub inside : (name : List ℕ) (c : ℕ) → Contains (numbers_at index name) c → c < n
+  pub complete : (name : List ℕ) (c : ℕ) (head : ClassHead) → c < n → slice_get heads c ≡ Some head → Contains (member_names member head) name → Contains (numbers_at index name) c
 
-pub index-begin : (member : Member) (heads : List ClassHead) (index : BTreeMap (List ℕ) (List ℕ)) → ((q : List ℕ) → get (slice_cmp nat_cmp) index q ≡ None) → IsIndexBelow member heads 0 index
+pub index-begin : (member : Member) (heads : List ClassHead) (index : NumbersByName) → ((name : List ℕ) → numbers_at index name ≡ []) → IsIndexBelow member heads 0 index
 index-begin member heads index empty = record {
   inside = λ name c in'.
-      let none : Contains {X = ℕ} [] c = subst (λ (xs : List ℕ). Contains xs c) (ap (λ (o : Option (List ℕ)). unwrap_or o []) (empty name)) in' in
+      let none : Contains {X = ℕ} [] c = subst (λ (xs : List ℕ). Contains xs c) (empty name) in' in
       absurd (omega (arith, none.1));
   complete = λ name c head lt. absurd (omega arith);
 }
 
-pub index-more : (member : Member) (heads : List ClassHead) (n : ℕ) (head : ClassHead) (old new : BTreeMap (List ℕ) (List ℕ)) → slice_get heads n ≡ Some head → IsIndexBelow member heads n old
+pub index-more : (member : Member) (heads : List ClassHead) (n : ℕ) (head : ClassHead) (old new : NumbersByName) → slice_get heads n ≡ Some head → IsIndexBelow member heads n old
     → IsNoted n (member_names member head) old new → IsIndexBelow member heads (n + 1) new
 index-more member heads n head old new found are noted = record {
   inside = λ name c in'. elim (noted.only name c in') [ inl before ↦ omega (arith, are.inside name c before) | inr same ↦ omega (arith, same) ];
@@ -185,11 +176,11 @@ index-more member heads n head old new found are noted = record {
         let e : c ≡ n = omega arith in
         let eq : Some head ≡ Some other = sym found ∙ ap (slice_get heads) (sym e) ∙ at in
         let same : head ≡ other = cc eq in
-        subst (λ (x : ℕ). Contains (classes_at new name) x) (sym e) (noted.noted name (subst (λ (h : ClassHead). Contains (member_names member h) name) (sym same) in'))
+        subst (λ (x : ℕ). Contains (numbers_at new name) x) (sym e) (noted.noted name (subst (λ (h : ClassHead). Contains (member_names member h) name) (sym same) in'))
   ];
 }
 
-pub index-end : (member : Member) (heads : List ClassHead) (n : ℕ) (index : BTreeMap (List ℕ) (List ℕ)) → n ≡ length heads → IsIndexBelow member heads n index → IsIndexOf member heads index
+pub index-end : (member : Member) (heads : List ClassHead) (n : ℕ) (index : NumbersByName) → n ≡ length heads → IsIndexBelow member heads n index → IsIndexOf member heads index
 index-end member heads n index e are = record {
   inside = λ name c in'. omega (arith, are.inside name c in', e);
   complete = λ name c head found in'. are.complete name c head (omega (arith, slice_get_within heads c head found, e)) found in';

@@ -8,3 +8,4 @@ pub mod Lowest
 pub mod MethodWays
 pub mod Crossings
 pub mod Indexed
+pub mod ByPlace

@@ -2,11 +2,12 @@
 use Rattle.std.proofs.Common.{◌≡◌, ℕ, zero, suc, ◌<◌, ◌⊎◌, inl, inr, true, List, [], refl, sym, ap, ◌∙◌, subst, arith}
 use Rattle.std.specs.Prelude.{Option, Some, None, Contains, is_some}
 use Rattle.ja_ir.specs.declared.head.ClassHead.{ClassHead}
+use Rattle.ja_index.specs.Numbers.{numbers_at}
+use Rattle.ja_index.specs.declared.numbers.NumbersByName.{NumbersByName}
 use Rattle.ja_hier.specs.declared.skip.Skip.TheVariants.{NoDefault}
-use Rattle.std.specs.BTreeMap.{BTreeMap}
 use Rattle.ja_hier.specs.declared.starts.Member.TheVariants.{Method}
 use Rattle.ja_hier.proofs.Indexed.{method-noted}
-use Rattle.ja_hier.specs.Index.{classes_at, Covers, Inherits, IsBelow, IsSomePlace, IsIndexOf, IsSomeCandidate, Overrides, IsOverridden, IsSomeLeft, IsOtherLeft, IsLeftNumber}
+use Rattle.ja_hier.specs.Index.{Covers, Inherits, IsBelow, IsSomePlace, IsIndexOf, IsSomeCandidate, Overrides, IsOverridden, IsSomeLeft, IsOtherLeft, IsLeftNumber}
 use Rattle.ja_hier.specs.LookUps.{method_in, answer_at, IsLeft, FindsDefault, one, nothing_left, several, ClassSearch, declared as declared-in, inherited, at_end, Finds, in_no_class}
 use Rattle.ja_ir.specs.declared.class.MethodAt.TheVariants.{Library as AtLibrary}
 use Rattle.ja_supers.specs.Faults.{IsCyclic, IsNowhere}
@@ -54,7 +55,7 @@ pub two-left : (heads : List ClassHead) (name desc : List ℕ) (c i : ℕ) → I
 two-left heads name desc c i left other = several i left.0 other.0 other.1.0 left.1 other.1.1 other.2
 
 -- where no class declares a method of the name, a class declares none
-pub none-declared : (heads : List ClassHead) (index : BTreeMap (List ℕ) (List ℕ)) (skip : Skip) (name desc : List ℕ) → IsIndexOf Method heads index → classes_at index name ≡ [] → (c : ℕ) → method_in heads skip name desc c ≡ None
+pub none-declared : (heads : List ClassHead) (index : NumbersByName) (skip : Skip) (name desc : List ℕ) → IsIndexOf Method heads index → numbers_at index name ≡ [] → (c : ℕ) → method_in heads skip name desc c ≡ None
 none-declared heads index skip name desc are none c =
     none-from (method_in heads skip name desc c) (λ k e.
     let in' : Contains {X = ℕ} [] c = subst (λ (xs : List ℕ). Contains xs c) none (method-noted heads index skip name desc c k are e) in
@@ -81,22 +82,22 @@ superinterface-supertype heads c i (declared d at in') = elim at [
 ]
 
 -- a class that lies above another one and declares the method is among those that stand for the noted ones
-pub covers-method : (heads : List ClassHead) (index : BTreeMap (List ℕ) (List ℕ)) (skip : Skip) (name desc : List ℕ) (c d : ℕ) (listed : List ℕ) → IsIndexOf Method heads index → Covers heads c (classes_at index name) listed
+pub covers-method : (heads : List ClassHead) (index : NumbersByName) (skip : Skip) (name desc : List ℕ) (c d : ℕ) (listed : List ℕ) → IsIndexOf Method heads index → Covers heads c (numbers_at index name) listed
     → IsSupertype heads c d → IsSomePlace (method_in heads skip name desc d) → Contains listed d
 covers-method heads index skip name desc c d listed are covers above place = covers.complete d above (method-noted heads index skip name desc d place.0 are place.1)
 
 -- an interface of which a method is left is among those that stand for the noted ones, and so is one that overrides
-pub left-listed : (heads : List ClassHead) (index : BTreeMap (List ℕ) (List ℕ)) (name desc : List ℕ) (c i : ℕ) (listed : List ℕ) → IsIndexOf Method heads index → Covers heads c (classes_at index name) listed
+pub left-listed : (heads : List ClassHead) (index : NumbersByName) (name desc : List ℕ) (c i : ℕ) (listed : List ℕ) → IsIndexOf Method heads index → Covers heads c (numbers_at index name) listed
     → IsSomeLeft heads name desc c i → Contains listed i
 left-listed heads index name desc c i listed are covers left =
     covers-method heads index NoDefault name desc c i listed are covers (superinterface-supertype heads c i left.1.candidate.above) (left.0, left.1.candidate.declared)
 
-pub overriding-listed : (heads : List ClassHead) (index : BTreeMap (List ℕ) (List ℕ)) (name desc : List ℕ) (c j i : ℕ) (listed : List ℕ) → IsIndexOf Method heads index → Covers heads c (classes_at index name) listed
+pub overriding-listed : (heads : List ClassHead) (index : NumbersByName) (name desc : List ℕ) (c j i : ℕ) (listed : List ℕ) → IsIndexOf Method heads index → Covers heads c (numbers_at index name) listed
     → Overrides heads name desc c j i → Contains listed j
 overriding-listed heads index name desc c j i listed are covers over =
     covers-method heads index NoDefault name desc c j listed are covers (superinterface-supertype heads c j over.candidate.1.above) (over.candidate.0, over.candidate.1.declared)
 
-pub inherits-listed : (heads : List ClassHead) (index : BTreeMap (List ℕ) (List ℕ)) (skip : Skip) (name desc : List ℕ) (c : ℕ) (listed : List ℕ) → IsIndexOf Method heads index → Covers heads c (classes_at index name) listed
+pub inherits-listed : (heads : List ClassHead) (index : NumbersByName) (skip : Skip) (name desc : List ℕ) (c : ℕ) (listed : List ℕ) → IsIndexOf Method heads index → Covers heads c (numbers_at index name) listed
     → (d : ℕ) → Inherits heads skip name desc c d → Contains listed d
 inherits-listed heads index skip name desc c listed are covers d from =
     covers-method heads index skip name desc c d listed are covers (superclass-supertype heads c d from.superclass) from.declared
@@ -145,7 +146,7 @@ pub nothing-above : (heads : List ClassHead) (skip : Skip) (name desc : List ℕ
 nothing-above heads skip name desc acyclic c none above = nothing-below heads skip name desc acyclic (suc (rank_of heads c)) c (omega arith) none above
 
 -- then the look-up ends in the library
-pub finds-library : (heads : List ClassHead) (index : BTreeMap (List ℕ) (List ℕ)) (skip : Skip) (name desc : List ℕ) → IsNowhere (IsCyclic heads) → IsIndexOf Method heads index → classes_at index name ≡ [] → (c : ℕ)
+pub finds-library : (heads : List ClassHead) (index : NumbersByName) (skip : Skip) (name desc : List ℕ) → IsNowhere (IsCyclic heads) → IsIndexOf Method heads index → numbers_at index name ≡ [] → (c : ℕ)
     → Finds heads skip name desc c AtLibrary
 finds-library heads index skip name desc acyclic are none c =
     in_no_class

@@ -3,10 +3,11 @@ use Rattle.std.proofs.Common.{◌≡◌, ℕ, zero, suc, ◌<◌, ◌⊎◌, inl
 use Rattle.std.specs.Prelude.{Option, Some, None, Contains, slice_get}
 use Rattle.std.proofs.lemmas.Option.{get_or_from_slice_get}
 use Rattle.std.proofs.lemmas.List.Elements.{Contains-get_or}
-use Rattle.std.specs.BTreeMap.{BTreeMap}
 use Rattle.ja_ir.specs.declared.head.ClassHead.{ClassHead}
+use Rattle.ja_index.specs.Numbers.{numbers_at}
+use Rattle.ja_index.specs.declared.numbers.NumbersByName.{NumbersByName}
 use Rattle.ja_hier.specs.declared.starts.Member.TheVariants.{Field}
-use Rattle.ja_hier.specs.Index.{classes_at, AreForks, Covers, IsBelow, IsIndexOf, IsNowhereOn, IsStraight, stays, upwards, Meets}
+use Rattle.ja_hier.specs.Index.{AreForks, Covers, IsBelow, IsIndexOf, IsNowhereOn, IsStraight, stays, upwards, Meets}
 use Rattle.ja_hier.specs.LookUps.{field_in, field_number, IsDeclaredAbove, FieldSearch, here, further}
 use Rattle.ja_supers.specs.Faults.{IsCyclic, IsNowhere}
 use Rattle.ja_supers.specs.Supertypes.{supertypes_of, IsAtOrAbove, IsDirect, IsSupertype, direct, through}
@@ -86,7 +87,7 @@ not-lower heads name desc c t e (Some d) way so-far none at =
     ]
 
 -- what is met is among those that stand for the noted classes
-pub meets-listed : (heads : List ClassHead) (index : BTreeMap (List ℕ) (List ℕ)) (name desc : List ℕ) (c t : ℕ) (listed : List ℕ) → IsIndexOf Field heads index → Covers heads c (classes_at index name) listed
+pub meets-listed : (heads : List ClassHead) (index : NumbersByName) (name desc : List ℕ) (c t : ℕ) (listed : List ℕ) → IsIndexOf Field heads index → Covers heads c (numbers_at index name) listed
     → (e : ℕ) → Meets heads name desc c t e → Contains listed e
 meets-listed heads index name desc c t listed are covers e at = covers.complete e at.between.above (field-noted heads index name desc e at.declared.0 are at.declared.1)
 

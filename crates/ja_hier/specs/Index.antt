@@ -1,8 +1,7 @@
 -- What the tables of a hierarchy hold, and what look-ups by them find on the way. Only private functions cite this.
-use Rattle.std.specs.Prelude.{◌≡◌, ℕ, ◌<◌, ◌⊎◌, true, List, [], ◌∷◌, Option, Some, None, Contains, length, map, slice_get, slice_index_or, sum_by, take, unwrap_or}
-use Rattle.std.specs.Ordering.{nat_cmp}
-use Rattle.std.specs.Cmp.Lexicographic.{slice_cmp}
-use Rattle.std.specs.BTreeMap.{BTreeMap, get}
+use Rattle.std.specs.Prelude.{◌≡◌, ℕ, suc, ◌<◌, ◌⊎◌, ◌&&◌, Bool, true, false, not, List, [], ◌∷◌, ◌++◌, Option, Some, None, Contains, bytes_eq, length, map, slice_get, slice_index_or, sum_by, take, if◌then◌else◌}
+use Rattle.ja_index.specs.declared.numbers.NumbersByName.{NumbersByName}
+use Rattle.ja_index.specs.Numbers.{numbers_at, number_if}
 use Rattle.ja_ir.specs.declared.head.ClassHead.{ClassHead}
 use Rattle.ja_ir.specs.declared.head.HeadField.{HeadField}
 use Rattle.ja_ir.specs.declared.head.HeadMethod.{HeadMethod}
@@ -15,7 +14,7 @@ use Rattle.ja_hier.specs.declared.starts.Member.{Member}
 use Rattle.ja_hier.specs.declared.starts.Member.TheVariants.{Field, Method}
 use Rattle.ja_hier.specs.Faults.{Hides, is_package_private}
 use Rattle.ja_hier.specs.Members.{count_of, IsNumbered}
-use Rattle.ja_hier.specs.LookUps.{field_in, method_in, method_number, IsCandidate, IsDeclaredAbove, IsLeft, FieldSearch}
+use Rattle.ja_hier.specs.LookUps.{field_in, method_in, method_number, IsCandidate, IsDeclaredAbove, IsLeft, FieldSearch, skips}
 
 -- for each class the number of the members that the classes before it declare
 pub record AreStarts (heads : List ClassHead) (members : ClassHead → ℕ) (starts : List ℕ) : Type 0 where
@@ -27,20 +26,30 @@ abbrev pub member_names : Member → ClassHead → List (List ℕ)
 member_names Field head = map (λ (field : HeadField). field.name) head.fields
 member_names Method head = map (λ (method : HeadMethod). method.name) head.methods
 
--- the classes that an index has for a name
-abbrev pub classes_at : BTreeMap (List ℕ) (List ℕ) → (name : List ℕ) → List ℕ
-classes_at index name = unwrap_or (get (slice_cmp nat_cmp) index name) []
-
 -- the index has for each name only classes of the list, and each that declares a member of this name
-pub record IsIndexOf (member : Member) (heads : List ClassHead) (index : BTreeMap (List ℕ) (List ℕ)) : Type 0 where
-  pub inside : (name : List ℕ) (c : ℕ) → Contains (classes_at index name) c → c < length heads
-  pub complete : (name : List ℕ) (c : ℕ) (head : ClassHead) → slice_get heads c ≡ Some head → Contains (member_names member head) name → Contains (classes_at index name) c
+pub record IsIndexOf (member : Member) (heads : List ClassHead) (index : NumbersByName) : Type 0 where
+  pub inside : (name : List ℕ) (c : ℕ) → Contains (numbers_at index name) c → c < length heads
+  pub complete : (name : List ℕ) (c : ℕ) (head : ClassHead) → slice_get heads c ≡ Some head → Contains (member_names member head) name → Contains (numbers_at index name) c
 
 -- class c is noted for each of the names, and nothing else has changed
-pub record IsNoted (c : ℕ) (names : List (List ℕ)) (old new : BTreeMap (List ℕ) (List ℕ)) : Type 0 where
-  pub kept : (name : List ℕ) (d : ℕ) → Contains (classes_at old name) d → Contains (classes_at new name) d
-  pub only : (name : List ℕ) (d : ℕ) → Contains (classes_at new name) d → Contains (classes_at old name) d ⊎ (d ≡ c)
-  pub noted : (name : List ℕ) → Contains names name → Contains (classes_at new name) c
+pub record IsNoted (c : ℕ) (names : List (List ℕ)) (old new : NumbersByName) : Type 0 where
+  pub kept : (name : List ℕ) (d : ℕ) → Contains (numbers_at old name) d → Contains (numbers_at new name) d
+  pub only : (name : List ℕ) (d : ℕ) → Contains (numbers_at new name) d → Contains (numbers_at old name) d ⊎ (d ≡ c)
+  pub noted : (name : List ℕ) → Contains names name → Contains (numbers_at new name) c
+
+-- the places of the members of this name, in ascending order, where the first member stands at this place
+abbrev pub places_from : (first : ℕ) → (names : List (List ℕ)) → (name : List ℕ) → List ℕ
+places_from first [] name = []
+places_from first (declared ∷ names) name = number_if first declared name ++ places_from (suc first) names name
+
+-- the index has for each name the places of the members of this name, in ascending order
+abbrev pub HasPlaces : (names : List (List ℕ)) → NumbersByName → Type 0
+HasPlaces names index = (name : List ℕ) → numbers_at index name ≡ places_from 0 names name
+
+-- for each class such an index of its members of a kind
+pub record ArePlaces (member : Member) (heads : List ClassHead) (places : List NumbersByName) : Type 0 where
+  pub size : length places ≡ length heads
+  pub each : (c : ℕ) (head : ClassHead) (index : NumbersByName) → slice_get heads c ≡ Some head → slice_get places c ≡ Some index → HasPlaces (member_names member head) index
 
 -- class t is class c, or is met on the way up from c on which each class before t has one direct supertype
 pub data IsStraight (heads : List ClassHead) : (c t : ℕ) → Type 0 where
@@ -59,8 +68,30 @@ pub record IsIndexed (tables : Tables) : Type 0 where
   pub field_starts : AreStarts tables.classes (count_of Field) tables.field_starts
   pub method_starts : AreStarts tables.classes (count_of Method) tables.method_starts
   pub forks : AreForks tables.classes tables.forks
-  pub fields : IsIndexOf Field tables.classes tables.field_classes
-  pub methods : IsIndexOf Method tables.classes tables.method_classes
+  pub fields : IsIndexOf Field tables.classes tables.fields.classes
+  pub methods : IsIndexOf Method tables.classes tables.methods.classes
+  pub field_places : ArePlaces Field tables.classes tables.fields.places
+  pub method_places : ArePlaces Method tables.classes tables.methods.places
+
+-- there is a field of this descriptor
+abbrev pub is_field : (desc : List ℕ) → Option HeadField → Bool
+is_field desc None = false
+is_field desc (Some field) = bytes_eq field.desc desc
+
+-- there is a method of this descriptor, which the look-up does not pass over
+abbrev pub is_method : Skip → (desc : List ℕ) → Option HeadMethod → Bool
+is_method skip desc None = false
+is_method skip desc (Some method) = bytes_eq method.desc desc && not (skips skip method.flags)
+
+-- there is a package-private method of this descriptor
+abbrev pub is_hidden : (desc : List ℕ) → Option HeadMethod → Bool
+is_hidden desc None = false
+is_hidden desc (Some method) = bytes_eq method.desc desc && is_package_private method.flags
+
+-- the first of the places at which what a list has, if it has anything there, meets a test
+abbrev pub first_place : {X : Type 0} → (test : Option X → Bool) → List X → (places : List ℕ) → Option ℕ
+first_place test xs [] = None
+first_place test xs (place ∷ places) = if test (slice_get xs place) then Some place else first_place test xs places
 
 -- there is a place
 abbrev pub IsSomePlace : Option ℕ → Type 0

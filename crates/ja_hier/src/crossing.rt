@@ -1,15 +1,18 @@
-ghost use Rattle.std.specs.Prelude.{◌≡◌, ℕ, ◌<◌, ◌↔◌, Some, codes, length, slice_get, IsTrue, IfErr, IfSome, IfNone, OnOk};
+ghost use Rattle.std.specs.Prelude.{◌≡◌, ℕ, ◌<◌, ◌↔◌, Some, codes, is_some, length, map, slice_get, IsTrue, IfErr, IfSome, IfNone, OnOk};
+ghost use Rattle.ja_ir.specs.declared.head.HeadMethod.{HeadMethod};
+ghost use Rattle.ja_hier.specs.declared.starts.Member.TheVariants.{Method};
 ghost use Rattle.ja_supers.specs.Faults.{IsFirst, IsNowhere};
 ghost use Rattle.ja_hier.specs.Faults.{IsFault, IsCrossing, Hides, Crosses, CrossesPackage};
-ghost use Rattle.ja_hier.specs.Index.{HidesAt, IsHiddenAmong, IsIndexed};
+ghost use Rattle.ja_hier.specs.Index.{first_place, is_hidden, member_names, HasPlaces, HidesAt, IsHiddenAmong, IsIndexed};
 
 use crate::HierFault;
 use crate::above::fewer;
 use crate::flags::{is_package_private, is_virtual};
-use crate::index::noted;
 use crate::package::same_package;
 use crate::tables::Tables;
-use ja_ir::{ClassHead, HeadMethod};
+use ja_base::Name;
+use ja_index::NumbersByName;
+use ja_ir::{ClassHead, HeadMethod, HeadMethods};
 
 /// Refuses a method that redeclares a package-private method of a superclass in another package.
 pub fn check_packages(tables: &Tables) -> Result<(), HierFault>
@@ -57,7 +60,7 @@ fn crosses(tables: &Tables, class: u32, head: &ClassHead, method: &HeadMethod) -
     if is_constructor(method) {
         return false;
     }
-    let declaring = noted(&tables.method_classes, &method.name);
+    let declaring = tables.methods.classes.at(&method.name);
     let listed = fewer(&tables.classes, class, declaring);
     for other in listed {
         if hides_at(tables, class, head, method, *other as u32) {
@@ -69,19 +72,27 @@ fn crosses(tables: &Tables, class: u32, head: &ClassHead, method: &HeadMethod) -
 
 /// Whether the other class is a superclass that hides a method of a class.
 fn hides_at(tables: &Tables, class: u32, head: &ClassHead, method: &HeadMethod, other: u32) -> bool
+    requires indexed { IsIndexed tables.now }
     requires inside { class < length tables.now.classes }
     requires other_inside { other < length tables.now.classes }
     ensures { IsTrue result ↔ HidesAt tables.now.classes class head.now method.now other }
 {
     tables.classes.is_superclass(class, other)
-        && hides(head, tables.classes.heads().at(other as u64), method)
+        && hides(
+            head,
+            tables.classes.heads().at(other as u64),
+            tables.methods.places.at(other as u64),
+            method,
+        )
 }
 
-/// Whether a class in another package declares a package-private method that the method redeclares.
-fn hides(head: &ClassHead, above: &ClassHead, method: &HeadMethod) -> bool
+/// Whether a class in another package, whose methods have these places, declares a package-private method
+/// that the method redeclares.
+fn hides(head: &ClassHead, above: &ClassHead, places: &NumbersByName, method: &HeadMethod) -> bool
+    requires { HasPlaces (member_names Method above.now) places.now }
     ensures { IsTrue result ↔ Hides head.now above.now method.now }
 {
-    declares_hidden(above.methods.as_slice(), method)
+    declares_hidden(&above.methods, places, method)
         && !is_constructor(method)
         && !same_package(&head.name, &above.name)
 }
@@ -93,11 +104,34 @@ fn is_constructor(method: &HeadMethod) -> bool
     method.name.bytes() == b"<init>".as_slice()
 }
 
-/// Whether one of the methods is package-private and has the name and descriptor.
-fn declares_hidden(methods: &[HeadMethod], method: &HeadMethod) -> bool
+/// Whether one of the methods, which have these places, is package-private and has the name and
+/// descriptor.
+fn declares_hidden(methods: &HeadMethods, places: &NumbersByName, method: &HeadMethod) -> bool
+    requires { HasPlaces (map (λ (hidden : HeadMethod). hidden.name) methods.now) places.now }
     ensures { IsTrue result ↔ IsHiddenAmong methods.now method.now }
 {
-    methods.iter().any(|hidden| {
-        hidden.name == method.name && hidden.desc == method.desc && is_package_private(hidden.flags)
-    })
+    has_hidden(methods, places.at(&method.name), &method.desc)
+}
+
+/// Whether there is a package-private method of this descriptor at one of the places.
+fn has_hidden(methods: &HeadMethods, places: &[u64], desc: &Name) -> bool
+    ensures { result ≡ is_some (first_place (is_hidden desc.now) methods.now places.now) }
+{
+    for place in places {
+        if is_hidden_at(methods, desc, *place) {
+            return true;
+        }
+    }
+    false
+}
+
+/// Whether there is a package-private method of this descriptor at a place.
+fn is_hidden_at(methods: &HeadMethods, desc: &Name, place: u64) -> bool
+    ensures { result ≡ is_hidden desc.now (slice_get methods.now place) }
+{
+    if place >= methods.len() {
+        return false;
+    }
+    let method = methods.at(place);
+    method.desc == *desc && is_package_private(method.flags)
 }

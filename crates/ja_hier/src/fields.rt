@@ -1,26 +1,37 @@
-ghost use Rattle.std.specs.Prelude.{◌≡◌, ℕ, ◌<◌, ◌↔◌, ◌+◌, ◌&&◌, [], ◌∷◌, Some, None, bytes_eq, length, position, IsTrue, IfSome, IfNone};
-ghost use Rattle.ja_ir.specs.declared.head.HeadField.{HeadField};
-ghost use Rattle.ja_hier.specs.Index.{classes_at, Covers, DeclaresFor, IsBetween, IsIndexed, IsLowest, IsNowhereOn, IsStraight, LeadsOn, Meets};
+ghost use Rattle.std.specs.Prelude.{◌≡◌, ℕ, ◌<◌, ◌↔◌, ◌+◌, [], ◌∷◌, Some, None, length, slice_get, IsTrue, IfSome, IfNone};
+ghost use Rattle.ja_index.specs.Numbers.{numbers_at};
+ghost use Rattle.ja_hier.specs.Index.{first_place, is_field, Covers, DeclaresFor, IsBetween, IsIndexed, IsLowest, IsNowhereOn, IsStraight, LeadsOn, Meets};
 ghost use Rattle.ja_supers.specs.Supertypes.{IsSupertype};
 ghost use Rattle.ja_hier.specs.LookUps.{field_in, field_number, FieldSearch, FindsField, IsDeclaredAbove};
 
 use crate::FieldAt;
 use crate::above::{fewer, has_above};
 use crate::hier::is_at_or_above;
-use crate::index::noted;
 use crate::tables::Tables;
 use ja_base::{FieldId, Name};
-use ja_ir::HeadField;
+use ja_ir::HeadFields;
 use ja_supers::Classes;
 
-/// The place of the first field of this name and descriptor.
-fn position(fields: &[HeadField], name: &Name, desc: &Name) -> Option<usize>
-    ensures place { result ≡ position (λ (field : HeadField). bytes_eq field.name name.now && bytes_eq field.desc desc.now) fields.now }
-    ensures within { IfSome result (λ k. k < length fields.now) }
+/// Whether there is a field of this descriptor at a place.
+fn is_field_at(fields: &HeadFields, desc: &Name, place: u64) -> bool
+    ensures { result ≡ is_field desc.now (slice_get fields.now place) }
 {
-    fields
-        .iter()
-        .position(|field| field.name == *name && field.desc == *desc)
+    if place >= fields.len() {
+        return false;
+    }
+    fields.at(place).desc == *desc
+}
+
+/// The first of the places at which there is a field of this descriptor.
+fn first_field(fields: &HeadFields, places: &[u64], desc: &Name) -> Option<usize>
+    ensures { result ≡ first_place (is_field desc.now) fields.now places.now }
+{
+    for place in places {
+        if is_field_at(fields, desc, *place) {
+            return Some(*place as usize);
+        }
+    }
+    None
 }
 
 /// The place of the first field of this name and descriptor that a class itself declares.
@@ -29,8 +40,9 @@ fn field_in(tables: &Tables, class: u32, name: &Name, desc: &Name) -> Option<usi
     requires inside { class < length tables.now.classes }
     ensures { result ≡ field_in tables.now.classes name.now desc.now class }
 {
-    let head = tables.classes.heads().at(class as u64);
-    position(head.fields.as_slice(), name, desc)
+    let fields = &tables.classes.heads().at(class as u64).fields;
+    let places = tables.fields.places.at(class as u64).at(name);
+    first_field(fields, places, desc)
 }
 
 /// The number of a field that a class declares at a place.
@@ -57,7 +69,7 @@ fn declares_for(tables: &Tables, class: u32, other: u32, name: &Name, desc: &Nam
 fn is_declared_above(tables: &Tables, class: u32, name: &Name, desc: &Name, listed: &[u64]) -> bool
     requires indexed { IsIndexed tables.now }
     requires inside { class < length tables.now.classes }
-    requires covers { Covers tables.now.classes class (classes_at tables.now.field_classes name.now) listed.now }
+    requires covers { Covers tables.now.classes class (numbers_at tables.now.fields.classes name.now) listed.now }
     ensures { IsTrue result ↔ IsDeclaredAbove tables.now.classes name.now desc.now class }
 {
     if field_in(tables, class, name, desc).is_some() {
@@ -75,7 +87,7 @@ fn is_declared_above(tables: &Tables, class: u32, name: &Name, desc: &Name, list
 fn next_above(tables: &Tables, class: u32, name: &Name, desc: &Name, listed: &[u64]) -> Option<u32>
     requires indexed { IsIndexed tables.now }
     requires inside { class < length tables.now.classes }
-    requires covers { Covers tables.now.classes class (classes_at tables.now.field_classes name.now) listed.now }
+    requires covers { Covers tables.now.classes class (numbers_at tables.now.fields.classes name.now) listed.now }
     requires elsewhere { field_in tables.now.classes name.now desc.now class ≡ None }
     ensures some { IfSome result (λ next. LeadsOn tables.now.classes name.now desc.now class next) }
     ensures none { IfNone result (IsDeclaredAbove tables.now.classes name.now desc.now class → ⊥) }
@@ -89,7 +101,7 @@ fn next_above(tables: &Tables, class: u32, name: &Name, desc: &Name, listed: &[u
     None
 }
 
-/// Whether another class is a proper supertype of a class, and not above a third one.
+/// Whether another class is a proper supertype of a class, and a third one is at or above it.
 fn is_between(classes: &Classes, class: u32, fork: u32, other: u32) -> bool
     requires inside { class < length classes.now }
     requires fork_inside { fork < length classes.now }
@@ -122,7 +134,7 @@ fn lowest_above(
     requires indexed { IsIndexed tables.now }
     requires inside { class < length tables.now.classes }
     requires straight { IsStraight tables.now.classes class fork }
-    requires covers { Covers tables.now.classes class (classes_at tables.now.field_classes name.now) listed.now }
+    requires covers { Covers tables.now.classes class (numbers_at tables.now.fields.classes name.now) listed.now }
     ensures some { IfSome result (IsLowest (Meets tables.now.classes name.now desc.now class fork) (IsSupertype tables.now.classes)) }
     ensures none { IfNone result ((e : ℕ) → Meets tables.now.classes name.now desc.now class fork e → ⊥) }
 {
@@ -150,7 +162,7 @@ fn straight_field(
     requires indexed { IsIndexed tables.now }
     requires inside { class < length tables.now.classes }
     requires straight { IsStraight tables.now.classes class fork }
-    requires covers { Covers tables.now.classes class (classes_at tables.now.field_classes name.now) listed.now }
+    requires covers { Covers tables.now.classes class (numbers_at tables.now.fields.classes name.now) listed.now }
     ensures some { IfSome result (λ f. FieldSearch tables.now.classes name.now desc.now (class ∷ []) (Some f.0)) }
     ensures none { IfNone result (IsNowhereOn tables.now.classes name.now desc.now class fork) }
 {
@@ -182,7 +194,7 @@ pub fn find_field(tables: &Tables, class: u32, name: &Name, desc: &Name) -> Fiel
     requires inside { class < length tables.now.classes }
     ensures { FindsField tables.now.classes name.now desc.now class result }
 {
-    let declaring = noted(&tables.field_classes, name);
+    let declaring = tables.fields.classes.at(name);
     let listed = fewer(&tables.classes, class, declaring);
     if is_declared_above(tables, class, name, desc, listed) {
         return FieldAt::Program(declared_field(tables, class, name, desc, listed));
@@ -199,7 +211,7 @@ pub fn find_field(tables: &Tables, class: u32, name: &Name, desc: &Name) -> Fiel
 fn declared_field(tables: &Tables, class: u32, name: &Name, desc: &Name, listed: &[u64]) -> FieldId
     requires indexed { IsIndexed tables.now }
     requires inside { class < length tables.now.classes }
-    requires covers { Covers tables.now.classes class (classes_at tables.now.field_classes name.now) listed.now }
+    requires covers { Covers tables.now.classes class (numbers_at tables.now.fields.classes name.now) listed.now }
     requires declared { IsDeclaredAbove tables.now.classes name.now desc.now class }
     ensures { FieldSearch tables.now.classes name.now desc.now (class ∷ []) (Some result.0) }
 {

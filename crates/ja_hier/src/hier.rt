@@ -10,7 +10,7 @@ ghost use Rattle.ja_supers.specs.Supertypes.{superclass_of, AreSupertypes, IsAtO
 
 use crate::crossing::check_packages;
 use crate::forks::forks;
-use crate::index::classes_by_member;
+use crate::index::members_by_name;
 use crate::skip::Skip;
 use crate::starts::{Member, starts};
 use crate::tables::Tables;
@@ -71,15 +71,15 @@ fn tables_of(alloc: Global, heads: &[ClassHead]) -> Result<Tables, HierFault>
     let field_starts = starts(alloc, heads, Member::Field)?;
     let method_starts = starts(alloc, heads, Member::Method)?;
     let forks = forks(alloc, &classes)?;
-    let field_classes = classes_by_member(alloc, heads, Member::Field)?;
-    let method_classes = classes_by_member(alloc, heads, Member::Method)?;
+    let fields = members_by_name(alloc, heads, Member::Field)?;
+    let methods = members_by_name(alloc, heads, Member::Method)?;
     Ok(Tables {
         classes,
         field_starts,
         method_starts,
         forks,
-        field_classes,
-        method_classes,
+        fields,
+        methods,
     })
 }
 

@@ -1,27 +1,39 @@
-ghost use Rattle.std.specs.Prelude.{◌≡◌, ℕ, ◌<◌, ◌↔◌, ◌&&◌, false, not, Some, None, bytes_eq, length, position, IsTrue, IfSome, IfNone};
-ghost use Rattle.ja_ir.specs.declared.head.HeadMethod.{HeadMethod};
+ghost use Rattle.std.specs.Prelude.{◌≡◌, ℕ, ◌<◌, ◌↔◌, false, Some, None, length, slice_get, IsTrue, IfSome, IfNone};
+ghost use Rattle.ja_index.specs.Numbers.{numbers_at};
 ghost use Rattle.ja_hier.specs.declared.skip.Skip.TheVariants.{NoDefault};
-ghost use Rattle.ja_hier.specs.Index.{classes_at, Covers, Inherits, IsLowest, IsIndexed, IsSomeCandidate, IsSomePlace, IsOverridden, Overrides, IsSomeLeft, IsOtherLeft, IsLeftNumber};
+ghost use Rattle.ja_hier.specs.Index.{first_place, is_method, Covers, Inherits, IsLowest, IsIndexed, IsSomeCandidate, IsSomePlace, IsOverridden, Overrides, IsSomeLeft, IsOtherLeft, IsLeftNumber};
 ghost use Rattle.ja_supers.specs.Supertypes.{IsSuperclass};
-ghost use Rattle.ja_hier.specs.LookUps as lookups;
 ghost use Rattle.ja_hier.specs.LookUps.{method_in, method_number, answer_at, ClassSearch, FindsDefault, Finds};
 
 use crate::above::{fewer, is_below};
 use crate::flags::{is_abstract, skips};
-use crate::index::noted;
 use crate::skip::Skip;
 use crate::tables::Tables;
 use ja_base::{MethodId, Name};
-use ja_ir::{HeadMethod, MethodAt};
+use ja_ir::{HeadMethods, MethodAt};
 
-/// The place of the first method of this name and descriptor that the look-up does not pass over.
-fn position(methods: &[HeadMethod], skip: Skip, name: &Name, desc: &Name) -> Option<usize>
-    ensures place { result ≡ position (λ (method : HeadMethod). bytes_eq method.name name.now && bytes_eq method.desc desc.now && not (lookups.skips skip method.flags)) methods.now }
-    ensures within { IfSome result (λ k. k < length methods.now) }
+/// Whether there is a method of this descriptor at a place, which the look-up does not pass over.
+fn is_method_at(methods: &HeadMethods, skip: Skip, desc: &Name, place: u64) -> bool
+    ensures { result ≡ is_method skip desc.now (slice_get methods.now place) }
 {
-    methods.iter().position(|method| {
-        method.name == *name && method.desc == *desc && !skips(skip, method.flags)
-    })
+    if place >= methods.len() {
+        return false;
+    }
+    let method = methods.at(place);
+    method.desc == *desc && !skips(skip, method.flags)
+}
+
+/// The first of the places at which there is a method of this descriptor that the look-up does not pass
+/// over.
+fn first_method(methods: &HeadMethods, places: &[u64], skip: Skip, desc: &Name) -> Option<usize>
+    ensures { result ≡ first_place (is_method skip desc.now) methods.now places.now }
+{
+    for place in places {
+        if is_method_at(methods, skip, desc, *place) {
+            return Some(*place as usize);
+        }
+    }
+    None
 }
 
 /// The place of the first method of this name and descriptor that a class itself declares and the
@@ -31,8 +43,9 @@ fn method_in(tables: &Tables, skip: Skip, class: u32, name: &Name, desc: &Name) 
     requires inside { class < length tables.now.classes }
     ensures { result ≡ method_in tables.now.classes skip name.now desc.now class }
 {
-    let head = tables.classes.heads().at(class as u64);
-    position(head.methods.as_slice(), skip, name, desc)
+    let methods = &tables.classes.heads().at(class as u64).methods;
+    let places = tables.methods.places.at(class as u64).at(name);
+    first_method(methods, places, skip, desc)
 }
 
 /// The number of a method that a class declares at a place.
@@ -97,7 +110,7 @@ fn nearest(
 ) -> Option<u32>
     requires indexed { IsIndexed tables.now }
     requires inside { class < length tables.now.classes }
-    requires covers { Covers tables.now.classes class (classes_at tables.now.method_classes name.now) listed.now }
+    requires covers { Covers tables.now.classes class (numbers_at tables.now.methods.classes name.now) listed.now }
     ensures some { IfSome result (IsLowest (Inherits tables.now.classes skip name.now desc.now class) (IsSuperclass tables.now.classes)) }
     ensures none { IfNone result ((d : ℕ) → Inherits tables.now.classes skip name.now desc.now class d → ⊥) }
 {
@@ -124,7 +137,7 @@ fn class_search(
 ) -> Option<MethodAt>
     requires indexed { IsIndexed tables.now }
     requires inside { class < length tables.now.classes }
-    requires covers { Covers tables.now.classes class (classes_at tables.now.method_classes name.now) listed.now }
+    requires covers { Covers tables.now.classes class (numbers_at tables.now.methods.classes name.now) listed.now }
     ensures { ClassSearch tables.now.classes skip name.now desc.now class result }
 {
     if let Some(place) = method_in(tables, skip, class, name, desc) {
@@ -190,7 +203,7 @@ fn is_overridden(
     requires indexed { IsIndexed tables.now }
     requires inside { class < length tables.now.classes }
     requires interface_inside { interface < length tables.now.classes }
-    requires covers { Covers tables.now.classes class (classes_at tables.now.method_classes name.now) listed.now }
+    requires covers { Covers tables.now.classes class (numbers_at tables.now.methods.classes name.now) listed.now }
     ensures { IsTrue result ↔ IsOverridden tables.now.classes name.now desc.now class interface }
 {
     for other in listed {
@@ -214,7 +227,7 @@ fn is_left(
     requires indexed { IsIndexed tables.now }
     requires inside { class < length tables.now.classes }
     requires interface_inside { interface < length tables.now.classes }
-    requires covers { Covers tables.now.classes class (classes_at tables.now.method_classes name.now) listed.now }
+    requires covers { Covers tables.now.classes class (numbers_at tables.now.methods.classes name.now) listed.now }
     ensures { IsTrue result ↔ IsSomeLeft tables.now.classes name.now desc.now class interface }
 {
     is_candidate(tables, class, interface, name, desc)
@@ -225,7 +238,7 @@ fn is_left(
 fn first_left(tables: &Tables, class: u32, name: &Name, desc: &Name, listed: &[u64]) -> Option<u32>
     requires indexed { IsIndexed tables.now }
     requires inside { class < length tables.now.classes }
-    requires covers { Covers tables.now.classes class (classes_at tables.now.method_classes name.now) listed.now }
+    requires covers { Covers tables.now.classes class (numbers_at tables.now.methods.classes name.now) listed.now }
     ensures some { IfSome result (IsSomeLeft tables.now.classes name.now desc.now class) }
     ensures none { IfNone result ((i : ℕ) → IsSomeLeft tables.now.classes name.now desc.now class i → ⊥) }
 {
@@ -250,7 +263,7 @@ fn is_other_left(
     requires indexed { IsIndexed tables.now }
     requires inside { class < length tables.now.classes }
     requires other_inside { other < length tables.now.classes }
-    requires covers { Covers tables.now.classes class (classes_at tables.now.method_classes name.now) listed.now }
+    requires covers { Covers tables.now.classes class (numbers_at tables.now.methods.classes name.now) listed.now }
     ensures left { IsTrue result → IsSomeLeft tables.now.classes name.now desc.now class other }
     ensures apart { IsTrue result → interface ≡ other → ⊥ }
     ensures same { result ≡ false → IsSomeLeft tables.now.classes name.now desc.now class other → other ≡ interface }
@@ -272,7 +285,7 @@ fn is_alone(
 ) -> bool
     requires indexed { IsIndexed tables.now }
     requires inside { class < length tables.now.classes }
-    requires covers { Covers tables.now.classes class (classes_at tables.now.method_classes name.now) listed.now }
+    requires covers { Covers tables.now.classes class (numbers_at tables.now.methods.classes name.now) listed.now }
     ensures alone { IsTrue result → (i : ℕ) → IsSomeLeft tables.now.classes name.now desc.now class i → i ≡ interface }
     ensures others { result ≡ false → IsOtherLeft tables.now.classes name.now desc.now class interface }
 {
@@ -294,7 +307,7 @@ fn default_method(
 ) -> Option<MethodId>
     requires indexed { IsIndexed tables.now }
     requires inside { class < length tables.now.classes }
-    requires covers { Covers tables.now.classes class (classes_at tables.now.method_classes name.now) listed.now }
+    requires covers { Covers tables.now.classes class (numbers_at tables.now.methods.classes name.now) listed.now }
     ensures some { IfSome result (λ m. FindsDefault tables.now.classes name.now desc.now class (Some m.0)) }
     ensures none { IfNone result (FindsDefault tables.now.classes name.now desc.now class None) }
 {
@@ -334,7 +347,7 @@ pub fn find(tables: &Tables, skip: Skip, class: u32, name: &Name, desc: &Name) -
     requires inside { class < length tables.now.classes }
     ensures { Finds tables.now.classes skip name.now desc.now class result }
 {
-    let declaring = noted(&tables.method_classes, name);
+    let declaring = tables.methods.classes.at(name);
     if declaring.is_empty() {
         return MethodAt::Library;
     }

@@ -14,7 +14,7 @@ pub enum Member {
 }
 
 /// How many members of a kind a class declares.
-fn count_of(member: Member, head: &ClassHead) -> u64
+pub fn count_of(member: Member, head: &ClassHead) -> u64
     ensures { result ≡ count_of member head.now }
 {
     match member {

@@ -1,4 +1,4 @@
-use crate::index::ClassesByName;
+use crate::index::MembersByName;
 use ja_base::Numbers;
 use ja_supers::Classes;
 
@@ -13,8 +13,8 @@ pub struct Tables {
     pub method_starts: Numbers,
     /// For each class the first at or above it that has no or several direct supertypes.
     pub forks: Numbers,
-    /// For each name the classes that declare a field of it.
-    pub field_classes: ClassesByName,
-    /// For each name the classes that declare a method of it.
-    pub method_classes: ClassesByName,
+    /// The fields by name.
+    pub fields: MembersByName,
+    /// The methods by name.
+    pub methods: MembersByName,
 }

@@ -1,38 +1,19 @@
 -- Places of rows by class, and the look-up that goes by them.
-use Rattle.std.proofs.Common.{◌≡◌, ℕ, ◌+◌, ◌<◌, suc, true, false, ◌&&◌, cond, length, take, get_or, List, [], ◌∷◌, ◌++◌, Option, Some, None, unwrap_or, bytes_eq, is_eq, nat_cmp, refl, sym, ap, ◌∙◌, inl, inr, append_assoc, append-nil, add-zero, length-append, arith}
+use Rattle.std.proofs.Common.{◌≡◌, ℕ, ◌+◌, ◌<◌, suc, true, false, ◌&&◌, cond, length, take, get_or, List, [], ◌∷◌, ◌++◌, Option, Some, None, bytes_eq, refl, sym, ap, ◌∙◌, inl, inr, append_assoc, append-nil, add-zero, length-append, arith}
 use Rattle.std.specs.List.{list_any, slice_get}
-use Rattle.std.specs.Cmp.Lexicographic.{slice_cmp}
 use Rattle.std.proofs.lemmas.Bool.{cases_Bool}
 use Rattle.std.proofs.lemmas.List.{take_more, length-take-le}
-use Rattle.std.proofs.lemmas.Slice.Eq.{bytes_eq-Decides}
-use Rattle.std.proofs.lemmas.Map.Text.{is_eq-slice_cmp}
+use Rattle.ja_index.specs.Numbers.{number_if}
 use Rattle.ja_ir.specs.declared.row.LibRow.{LibRow}
 use Rattle.ja_lib.specs.declared.row.TableRow.{TableRow}
 use Rattle.ja_lib.specs.Rows.{is_for_class, is_for_method, is_for_desc, row_for}
-use Rattle.ja_lib.specs.Index.{place_if, place_for_each, places_from, said_by, first_at}
-
--- a class is noted: its places are taken out, and put back with one more
-pub noted : (before without after : List ℕ → Option (List ℕ)) (listed class places : List ℕ) (place : ℕ)
-    → ((q : List ℕ) → without q ≡ cond (is_eq (slice_cmp nat_cmp listed q)) None (before q))
-    → ((q : List ℕ) → after q ≡ cond (is_eq (slice_cmp nat_cmp listed q)) (Some places) (without q))
-    → places ≡ unwrap_or (before listed) [] ++ place ∷ []
-    → unwrap_or (after class) [] ≡ unwrap_or (before class) [] ++ place_if place listed class
-noted before without after listed class places place removed inserted is =
-    elim (cases_Bool (bytes_eq listed class)) [
-      | inl is_so ↦
-          let same : listed ≡ class = (bytes_eq-Decides listed class).0 is_so in
-          let at : is_eq (slice_cmp nat_cmp listed class) ≡ true = is_eq-slice_cmp listed class ∙ is_so in
-          rw (inserted class, at, is_so) (is ∙ ap (λ q. unwrap_or (before q) [] ++ place ∷ []) same)
-      | inr not_so ↦
-          let apart : is_eq (slice_cmp nat_cmp listed class) ≡ false = is_eq-slice_cmp listed class ∙ not_so in
-          rw (inserted class, apart, removed class, apart, not_so) (sym (append-nil _))
-    ]
+use Rattle.ja_lib.specs.Index.{place_for_each, places_from, said_by, first_at}
 
 -- one more class of a row
 pub place_for_each-last : (place : ℕ) (listed : List (List ℕ)) (last class : List ℕ)
-    → place_for_each place (listed ++ last ∷ []) class ≡ place_for_each place listed class ++ place_if place last class
-place_for_each-last place [] last class = append-nil (place_if place last class)
-place_for_each-last place (one ∷ more) last class = rw (place_for_each-last place more last class) (sym (append_assoc (place_if place one class) _ _))
+    → place_for_each place (listed ++ last ∷ []) class ≡ place_for_each place listed class ++ number_if place last class
+place_for_each-last place [] last class = append-nil (number_if place last class)
+place_for_each-last place (one ∷ more) last class = rw (place_for_each-last place more last class) (sym (append_assoc (number_if place one class) _ _))
 
 -- one more row
 pub places_from-last : (first : ℕ) (rows : List TableRow) (last : TableRow) (class : List ℕ)
@@ -114,7 +95,7 @@ row_noted rows i row classes before after class h is listed old new =
 
 -- a row's place is noted for one class after another
 pub class_noted : (place : ℕ) (listed : List (List ℕ)) (i : ℕ) (one start before after class : List ℕ) → i < length listed → one ≡ get_or listed i one
-    → before ≡ start ++ place_for_each place (take i listed) class → after ≡ before ++ place_if place one class
+    → before ≡ start ++ place_for_each place (take i listed) class → after ≡ before ++ number_if place one class
     → after ≡ start ++ place_for_each place (take (i + 1) listed) class
 class_noted place listed i one start before after class h is old new =
     let more : take (i + 1) listed ≡ take i listed ++ one ∷ [] = take_more listed i one h ∙ rw (← is) in

@@ -1,25 +1,16 @@
 -- The places of a table's rows by the classes that they list, so that a look-up need not go over all rows.
-use Rattle.std.specs.Prelude.{◌≡◌, ℕ, suc, ◌&&◌, List, [], ◌∷◌, ◌++◌, Option, Some, None, unwrap_or, bytes_eq, if◌then◌else◌}
+use Rattle.std.specs.Prelude.{◌≡◌, ℕ, suc, ◌&&◌, List, [], ◌∷◌, ◌++◌, Option, Some, None, if◌then◌else◌}
 use Rattle.std.specs.List.{slice_get}
-use Rattle.std.specs.Ordering.{nat_cmp}
-use Rattle.std.specs.Cmp.Lexicographic.{slice_cmp}
-use Rattle.std.specs.BTreeMap.{BTreeMap, get}
+use Rattle.ja_index.specs.declared.numbers.NumbersByName.{NumbersByName}
+use Rattle.ja_index.specs.Numbers.{numbers_at, number_if}
 use Rattle.ja_ir.specs.declared.row.LibRow.{LibRow}
 use Rattle.ja_lib.specs.declared.row.TableRow.{TableRow}
 use Rattle.ja_lib.specs.Rows.{is_for_method, is_for_desc}
 
--- the places that an index has for a class
-abbrev pub places_at : BTreeMap (List ℕ) (List ℕ) → (class : List ℕ) → List ℕ
-places_at index class = unwrap_or (get (slice_cmp nat_cmp) index class) []
-
--- the place, if both are one class
-abbrev pub place_if : ℕ → (listed class : List ℕ) → List ℕ
-place_if place listed class = if bytes_eq listed class then place ∷ [] else []
-
 -- the place, as often as the class is listed
 abbrev pub place_for_each : ℕ → (listed : List (List ℕ)) → (class : List ℕ) → List ℕ
 place_for_each place [] class = []
-place_for_each place (listed ∷ more) class = place_if place listed class ++ place_for_each place more class
+place_for_each place (listed ∷ more) class = number_if place listed class ++ place_for_each place more class
 
 -- the places of the rows that list the class, the first row standing at this place
 abbrev pub places_from : ℕ → List TableRow → (class : List ℕ) → List ℕ
@@ -27,8 +18,8 @@ places_from first [] class = []
 places_from first (row ∷ rows) class = place_for_each first row.classes class ++ places_from (suc first) rows class
 
 -- the index has for each class the places of the rows that list it, in table order
-abbrev pub IsIndexOf : List TableRow → BTreeMap (List ℕ) (List ℕ) → Type 0
-IsIndexOf rows index = (class : List ℕ) → places_at index class ≡ places_from 0 rows class
+abbrev pub IsIndexOf : List TableRow → NumbersByName → Type 0
+IsIndexOf rows index = (class : List ℕ) → numbers_at index class ≡ places_from 0 rows class
 
 -- what the row says, if it is there and is for this method, and else the other answer
 abbrev pub said_by : (method desc : List ℕ) → Option TableRow → Option LibRow → Option LibRow

@@ -2,9 +2,10 @@ ghost use Rattle.std.specs.Prelude.{◌≡◌, ◌&&◌, slice_get, option_copie
 ghost use Rattle.ja_lib.specs.Rows.{is_for_method, is_for_desc, row_for};
 ghost use Rattle.ja_lib.specs.Index.{first_at};
 
-use crate::index::{PlacesByClass, places_by_class};
+use crate::index::places_by_class;
 use crate::{EntryRows, TableRow, TableRows};
 use ja_base::{Memory, Name};
+use ja_index::NumbersByName;
 use ja_ir::LibRow;
 use std::alloc::Global;
 use std::marker::Model;
@@ -14,7 +15,7 @@ use std::marker::Model;
 pub struct Table {
     rows: TableRows,
     entries: EntryRows,
-    index: PlacesByClass,
+    index: NumbersByName,
 }
 
 impl Model for Table {
@@ -31,7 +32,7 @@ impl Model for Table {
 
 impl Table {
     /// The table of these rows and entries.
-    pub fn new(alloc: Global, rows: TableRows, entries: EntryRows) -> Result<Table, Memory>
+    pub(crate) fn new(alloc: Global, rows: TableRows, entries: EntryRows) -> Result<Table, Memory>
         ensures { IfOk result (λ table. table ≡ record { rows = rows; entries = entries }) }
     {
         let index = places_by_class(alloc, rows.as_slice())?;
@@ -47,10 +48,7 @@ impl Table {
     pub fn row_of(&self, class: &Name, method: &Name, desc: &Name) -> Option<&LibRow>
         ensures { option_copied result ≡ row_for self.now.rows class.now method.now desc.now }
     {
-        match self.index.get(class) {
-            Some(places) => first_row(&self.rows, places.as_slice(), method, desc),
-            None => None,
-        }
+        first_row(&self.rows, self.index.at(class), method, desc)
     }
 
     /// The entry rows, in the table's order. It takes no memory.

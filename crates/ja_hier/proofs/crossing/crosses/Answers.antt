@@ -3,7 +3,8 @@ use Rattle.std.specs.Prelude.{Contains}
 use Rattle.std.proofs.lemmas.Option.{slice_get_within}
 use Rattle.std.proofs.lemmas.List.Elements.{Contains-get_or}
 use Rattle.ja_supers.proofs.Up.{superclass-supertype}
-use Rattle.ja_hier.specs.Index.{HidesAt, classes_at}
+use Rattle.ja_index.specs.Numbers.{numbers_at}
+use Rattle.ja_hier.specs.Index.{HidesAt}
 use Rattle.ja_hier.proofs.Crossings.{crosses-from, crosses-noted}
 use Rattle.ja_hier.proofs.Indexed.{at-item}
 use Rattle.ja_hier.proofs.crossing.crosses.Goals as goal
@@ -44,11 +45,11 @@ pub returns : goal.returns
 returns c = (
   λ t. absurd (cc t),
   λ crosses.
-      let there : (d : ℕ) × Contains (classes_at c.args.tables.now.method_classes c.args.method.now.name) d × HidesAt c.args.tables.now.classes c.args.class c.args.head.now c.args.method.now d =
-      crosses-noted c.args.tables.now.classes c.args.class c.args.head.now c.args.method.now c.args.tables.now.method_classes c.requires.indexed.methods crosses in
+      let there : (d : ℕ) × Contains (numbers_at c.args.tables.now.methods.classes c.args.method.now.name) d × HidesAt c.args.tables.now.classes c.args.class c.args.head.now c.args.method.now d =
+      crosses-noted c.args.tables.now.classes c.args.class c.args.head.now c.args.method.now c.args.tables.now.methods.classes c.requires.indexed.methods crosses in
       absurd (at-item (λ (d : ℕ). HidesAt c.args.tables.now.classes c.args.class c.args.head.now c.args.method.now d → ⊥) c.fewer-listed.result.now (λ j lt. c.loop-other.invariant j (omega arith)) there.0
       (c.fewer-listed.ensures.complete there.0 (superclass-supertype c.args.tables.now.classes c.args.class there.0 there.2.superclass)
-      (subst (λ (xs : List ℕ). Contains xs there.0) (sym c.noted-declaring.ensures) there.1)) there.2),
+      (subst (λ (xs : List ℕ). Contains xs there.0) (sym c.at-declaring.ensures) there.1)) there.2),
 )
 
 pub returns-then-is_constructor : goal.returns-then-is_constructor
@@ -59,4 +60,4 @@ fewer-listed-requires-clause-inside c = slice_get_within c.args.tables.now.class
 
 pub fewer-listed-requires-clause-listed_inside : goal.fewer-listed-requires-clause-listed_inside
 fewer-listed-requires-clause-listed_inside c = λ d in'.
-    c.requires.indexed.methods.inside c.args.method.now.name d (subst (λ (xs : List ℕ). Contains xs d) c.noted-declaring.ensures in')
+    c.requires.indexed.methods.inside c.args.method.now.name d (subst (λ (xs : List ℕ). Contains xs d) c.at-declaring.ensures in')

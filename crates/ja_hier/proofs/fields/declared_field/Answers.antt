@@ -1,8 +1,8 @@
 use Rattle.std.proofs.Common.{inr}
 use Rattle.std.specs.Prelude.{Some}
-use Rattle.ja_hier.specs.Index.{classes_at}
 use Rattle.ja_supers.specs.Supertypes.{direct}
 use Rattle.ja_supers.proofs.Falls.{direct-target}
+use Rattle.ja_index.specs.Numbers.{numbers_at}
 use Rattle.ja_hier.proofs.Straight.{at-or-above-through, covers-above, declared-past, end-lacks, goes-along, straight-above, straight-falls}
 use Rattle.ja_hier.proofs.fields.declared_field.Goals as goal
 
@@ -11,7 +11,7 @@ returns-in-Some c = c.loop-field.invariant.finds c.in-Some.field.0 c.in-Some.ens
 
 pub next_above-requires-clause-covers : goal.next_above-requires-clause-covers
 next_above-requires-clause-covers c =
-    covers-above c.args.tables.now.classes c.loop-field.at c.fork_at-fork.result (classes_at c.args.tables.now.field_classes c.args.name.now) c.args.listed.now
+    covers-above c.args.tables.now.classes c.loop-field.at c.fork_at-fork.result (numbers_at c.args.tables.now.fields.classes c.args.name.now) c.args.listed.now
     (straight-above c.args.tables.now.classes c.loop-field.at c.fork_at-fork.result c.fork_at-fork.ensures.straight) c.loop-field.invariant.covers
 
 pub next_above-requires-clause-elsewhere : goal.next_above-requires-clause-elsewhere
@@ -31,7 +31,7 @@ pub loop-field-preserved : goal.loop-field-preserved
 loop-field-preserved c = record {
   inside = direct-target c.args.tables.now.classes c.fork_at-fork.result c.in-Some-next_above.next c.in-Some-next_above.ensures.some.direct;
   covers =
-      covers-above c.args.tables.now.classes c.loop-field.at c.in-Some-next_above.next (classes_at c.args.tables.now.field_classes c.args.name.now) c.args.listed.now
+      covers-above c.args.tables.now.classes c.loop-field.at c.in-Some-next_above.next (numbers_at c.args.tables.now.fields.classes c.args.name.now) c.args.listed.now
       (at-or-above-through c.args.tables.now.classes c.loop-field.at c.fork_at-fork.result c.in-Some-next_above.next
       (straight-above c.args.tables.now.classes c.loop-field.at c.fork_at-fork.result c.fork_at-fork.ensures.straight) (inr (direct c.in-Some-next_above.ensures.some.direct)))
       c.loop-field.invariant.covers;

@@ -1,6 +1,7 @@
 use Rattle.std.proofs.Common.{ℕ, ◌<◌, ◌∷◌, [], length}
 use Rattle.std.specs.Prelude.{Some}
-use Rattle.ja_hier.specs.Index.{classes_at, Covers}
+use Rattle.ja_index.specs.Numbers.{numbers_at}
+use Rattle.ja_hier.specs.Index.{Covers}
 use Rattle.ja_hier.specs.LookUps.{IsDeclaredAbove, FieldSearch}
 use Rattle.ja_supers.proofs.Ranks.{rank_of}
 use Rattle.ja_hier.proofs.fields.declared_field.Given as goal
@@ -8,7 +9,7 @@ use Rattle.ja_hier.proofs.fields.declared_field.Given as goal
 abbrev pub invariant-loop-field : goal.invariant-loop-field
 invariant-loop-field l = record {
   inside : l.at < length l.tables.classes;
-  covers : Covers l.tables.classes l.at (classes_at l.tables.field_classes l.name) l.listed;
+  covers : Covers l.tables.classes l.at (numbers_at l.tables.fields.classes l.name) l.listed;
   declared : IsDeclaredAbove l.tables.classes l.name l.desc l.at;
   finds : (f : ℕ) → FieldSearch l.tables.classes l.name l.desc (l.at ∷ []) (Some f) → FieldSearch l.tables.classes l.name l.desc (l.class ∷ []) (Some f);
 }

@@ -26,4 +26,4 @@ returns-else-has_library_supertype c =
 
 pub fewer-listed-requires-clause-listed_inside : goal.fewer-listed-requires-clause-listed_inside
 fewer-listed-requires-clause-listed_inside c = λ d in'.
-    c.requires.indexed.fields.inside c.args.name.now d (subst (λ (xs : List ℕ). Contains xs d) c.noted-declaring.ensures in')
+    c.requires.indexed.fields.inside c.args.name.now d (subst (λ (xs : List ℕ). Contains xs d) c.at-declaring.ensures in')

@@ -50,7 +50,7 @@ returns c = (
         absurd (cc (t, c.if-is_some.false))
     | inr up ↦
         absurd (at-item (λ (e : ℕ). DeclaresFor c.args.tables.now.classes c.args.name.now c.args.desc.now c.args.class e → ⊥) c.args.listed.now (λ j lt. c.loop-other.invariant j (omega arith)) above.0
-        (c.requires.covers.complete above.0 up (field-noted c.args.tables.now.classes c.args.tables.now.field_classes c.args.name.now c.args.desc.now above.0 above.1 c.requires.indexed.fields above.3))
+        (c.requires.covers.complete above.0 up (field-noted c.args.tables.now.classes c.args.tables.now.fields.classes c.args.name.now c.args.desc.now above.0 above.1 c.requires.indexed.fields above.3))
         (record { above = inr up; declared = (above.1, above.3) }))
   ],
 )

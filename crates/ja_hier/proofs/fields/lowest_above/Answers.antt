@@ -56,12 +56,12 @@ loop-other-preserved c =
 pub returns-clause-some : goal.returns-clause-some
 returns-clause-some c =
     lowest-found (Meets c.args.tables.now.classes c.args.name.now c.args.desc.now c.args.class c.args.fork) (IsSupertype c.args.tables.now.classes) c.args.listed.now c.loop-other.other-index c.loop-other.lowest (omega arith)
-    (meets-listed c.args.tables.now.classes c.args.tables.now.field_classes c.args.name.now c.args.desc.now c.args.class c.args.fork c.args.listed.now c.requires.indexed.fields c.requires.covers) c.loop-other.invariant
+    (meets-listed c.args.tables.now.classes c.args.tables.now.fields.classes c.args.name.now c.args.desc.now c.args.class c.args.fork c.args.listed.now c.requires.indexed.fields c.requires.covers) c.loop-other.invariant
 
 pub returns-clause-none : goal.returns-clause-none
 returns-clause-none c =
     lowest-missing (Meets c.args.tables.now.classes c.args.name.now c.args.desc.now c.args.class c.args.fork) (IsSupertype c.args.tables.now.classes) c.args.listed.now c.loop-other.other-index c.loop-other.lowest (omega arith)
-    (meets-listed c.args.tables.now.classes c.args.tables.now.field_classes c.args.name.now c.args.desc.now c.args.class c.args.fork c.args.listed.now c.requires.indexed.fields c.requires.covers) c.loop-other.invariant
+    (meets-listed c.args.tables.now.classes c.args.tables.now.fields.classes c.args.name.now c.args.desc.now c.args.class c.args.fork c.args.listed.now c.requires.indexed.fields c.requires.covers) c.loop-other.invariant
 
 pub meets-requires-clause-fork_inside : goal.meets-requires-clause-fork_inside
 meets-requires-clause-fork_inside c = above-inside c.args.tables.now.classes c.args.class c.args.fork c.requires.inside (straight-above c.args.tables.now.classes c.args.class c.args.fork c.requires.straight)

@@ -1,8 +1,8 @@
 use Rattle.std.proofs.Common.{◌≡◌, ℕ, ◌<◌, length, get_or, true, ◌∙◌, arith, below_more}
 use Rattle.ja_supers.specs.Supertypes.{supertypes_of}
+use Rattle.ja_index.specs.Numbers.{numbers_at}
 use Rattle.ja_hier.specs.LookUps.{IsDeclaredAbove}
 use Rattle.ja_supers.proofs.Ranks.{rank_of, rank-falls}
-use Rattle.ja_hier.specs.Index.{classes_at}
 use Rattle.ja_hier.proofs.FieldWays.{leads-on, no-next, next-inside}
 use Rattle.ja_hier.proofs.Straight.{covers-next}
 use Rattle.ja_hier.proofs.fields.next_above.Goals as goal
@@ -52,4 +52,4 @@ pub is_declared_above-requires-clause-covers : goal.is_declared_above-requires-c
 is_declared_above-requires-clause-covers c =
     let lt : c.loop-next.next-index < length c.as_slice-supertypes.result.now = omega arith in
     let is : c.as_slice-supertypes.result.now ≡ supertypes_of c.args.tables.now.classes c.args.class = c.as_slice-supertypes.ensures ∙ c.direct_supertypes.ensures.value in
-    covers-next c.args.tables.now.classes c.args.class c.as_slice-supertypes.result.now c.loop-next.next-index (classes_at c.args.tables.now.field_classes c.args.name.now) c.args.listed.now is lt c.requires.covers
+    covers-next c.args.tables.now.classes c.args.class c.as_slice-supertypes.result.now c.loop-next.next-index (numbers_at c.args.tables.now.fields.classes c.args.name.now) c.args.listed.now is lt c.requires.covers

@@ -1,7 +1,7 @@
 use Rattle.std.proofs.Common.{◌≡◌, ◌<◌, length, refl, arith}
 use Rattle.std.specs.Prelude.{Some, slice_get}
 use Rattle.std.proofs.lemmas.Option.{slice_get_read}
-use Rattle.ja_hier.proofs.Indexed.{index-more, index-end}
+use Rattle.ja_hier.proofs.Indexed.{index-begin, index-more, index-end}
 use Rattle.ja_hier.proofs.index.classes_by_member.Goals as goal
 
 pub loop-class-preserved : goal.loop-class-preserved
@@ -12,3 +12,6 @@ loop-class-preserved c =
 
 pub returns : goal.returns
 returns c = index-end c.args.member c.args.heads.now c.loop-class.class c.loop-class.index (omega arith) c.loop-class.invariant
+
+pub loop-class-init : goal.loop-class-init
+loop-class-init c = index-begin c.args.member c.args.heads.now c.new-index.result c.new-index.ensures

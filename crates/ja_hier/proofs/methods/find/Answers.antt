@@ -16,10 +16,10 @@ returns-in-None-default_method c = in_no_class c.in-None.ensures c.in-None-defau
 
 pub fewer-listed-requires-clause-listed_inside : goal.fewer-listed-requires-clause-listed_inside
 fewer-listed-requires-clause-listed_inside c = λ d in'.
-    c.requires.indexed.methods.inside c.args.name.now d (subst (λ (xs : List ℕ). Contains xs d) c.noted-declaring.ensures in')
+    c.requires.indexed.methods.inside c.args.name.now d (subst (λ (xs : List ℕ). Contains xs d) c.at-declaring.ensures in')
 
 pub returns-then-is_empty : goal.returns-then-is_empty
 returns-then-is_empty c =
-    let empty : (length c.noted-declaring.result.now == 0) ≡ true = sym c.is_empty.ensures ∙ c.if-is_empty.true in
-    finds-library c.args.tables.now.classes c.args.tables.now.method_classes c.args.skip c.args.name.now c.args.desc.now c.requires.indexed.valid.acyclic c.requires.indexed.methods
-    (sym c.noted-declaring.ensures ∙ no-items c.noted-declaring.result.now empty) c.args.class
+    let empty : (length c.at-declaring.result.now == 0) ≡ true = sym c.is_empty.ensures ∙ c.if-is_empty.true in
+    finds-library c.args.tables.now.classes c.args.tables.now.methods.classes c.args.skip c.args.name.now c.args.desc.now c.requires.indexed.valid.acyclic c.requires.indexed.methods
+    (sym c.at-declaring.ensures ∙ no-items c.at-declaring.result.now empty) c.args.class

@@ -37,4 +37,4 @@ loop-interface-preserved c =
 pub returns-clause-none : goal.returns-clause-none
 returns-clause-none c = λ i left.
     at-item (λ (j : ℕ). IsSomeLeft c.args.tables.now.classes c.args.name.now c.args.desc.now c.args.class j → ⊥) c.args.listed.now (λ j lt. c.loop-interface.invariant j (omega arith)) i
-    (left-listed c.args.tables.now.classes c.args.tables.now.method_classes c.args.name.now c.args.desc.now c.args.class i c.args.listed.now c.requires.indexed.methods c.requires.covers left) left
+    (left-listed c.args.tables.now.classes c.args.tables.now.methods.classes c.args.name.now c.args.desc.now c.args.class i c.args.listed.now c.requires.indexed.methods c.requires.covers left) left

@@ -34,4 +34,4 @@ loop-other-preserved c =
 pub returns-clause-alone : goal.returns-clause-alone
 returns-clause-alone c = λ yes i left.
     at-item (λ (j : ℕ). IsSomeLeft c.args.tables.now.classes c.args.name.now c.args.desc.now c.args.class j → j ≡ c.args.interface) c.args.listed.now (λ j lt. c.loop-other.invariant j (omega arith)) i
-    (left-listed c.args.tables.now.classes c.args.tables.now.method_classes c.args.name.now c.args.desc.now c.args.class i c.args.listed.now c.requires.indexed.methods c.requires.covers left) left
+    (left-listed c.args.tables.now.classes c.args.tables.now.methods.classes c.args.name.now c.args.desc.now c.args.class i c.args.listed.now c.requires.indexed.methods c.requires.covers left) left

@@ -34,5 +34,5 @@ pub returns : goal.returns
 returns c = (
   λ t. absurd (cc t),
   λ over. absurd (at-item (λ (j : ℕ). Overrides c.args.tables.now.classes c.args.name.now c.args.desc.now c.args.class j c.args.interface → ⊥) c.args.listed.now (λ j lt. c.loop-other.invariant j (omega arith)) over.0
-      (overriding-listed c.args.tables.now.classes c.args.tables.now.method_classes c.args.name.now c.args.desc.now c.args.class over.0 c.args.interface c.args.listed.now c.requires.indexed.methods c.requires.covers over.1) over.1),
+      (overriding-listed c.args.tables.now.classes c.args.tables.now.methods.classes c.args.name.now c.args.desc.now c.args.class over.0 c.args.interface c.args.listed.now c.requires.indexed.methods c.requires.covers over.1) over.1),
 )

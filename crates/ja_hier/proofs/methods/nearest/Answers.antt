@@ -56,9 +56,9 @@ loop-other-preserved c =
 pub returns-clause-some : goal.returns-clause-some
 returns-clause-some c =
     lowest-found (Inherits c.args.tables.now.classes c.args.skip c.args.name.now c.args.desc.now c.args.class) (IsSuperclass c.args.tables.now.classes) c.args.listed.now c.loop-other.other-index c.loop-other.nearest (omega arith)
-    (inherits-listed c.args.tables.now.classes c.args.tables.now.method_classes c.args.skip c.args.name.now c.args.desc.now c.args.class c.args.listed.now c.requires.indexed.methods c.requires.covers) c.loop-other.invariant
+    (inherits-listed c.args.tables.now.classes c.args.tables.now.methods.classes c.args.skip c.args.name.now c.args.desc.now c.args.class c.args.listed.now c.requires.indexed.methods c.requires.covers) c.loop-other.invariant
 
 pub returns-clause-none : goal.returns-clause-none
 returns-clause-none c =
     lowest-missing (Inherits c.args.tables.now.classes c.args.skip c.args.name.now c.args.desc.now c.args.class) (IsSuperclass c.args.tables.now.classes) c.args.listed.now c.loop-other.other-index c.loop-other.nearest (omega arith)
-    (inherits-listed c.args.tables.now.classes c.args.tables.now.method_classes c.args.skip c.args.name.now c.args.desc.now c.args.class c.args.listed.now c.requires.indexed.methods c.requires.covers) c.loop-other.invariant
+    (inherits-listed c.args.tables.now.classes c.args.tables.now.methods.classes c.args.skip c.args.name.now c.args.desc.now c.args.class c.args.listed.now c.requires.indexed.methods c.requires.covers) c.loop-other.invariant
