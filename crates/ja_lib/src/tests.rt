@@ -28,106 +28,123 @@ fn said(
     }
 }
 
+/// Files whose first wrong row is row 1, and whose first wrong entry is entry 2.
+const LATER_ROW: &[u8] =
+    b"[[row]]\nclass = ['A']\nmethod = 'm'\n[[row]]\nclass = ['A']\nmethod = 'm'\nflow = 'maybe'\n[[entry]]\n";
+
+const LATER_ENTRY: &[u8] =
+    b"[[entry]]\nclass = 'A'\nmethod = 'm'\ndesc = '()V'\n[[entry]]\nclass = '*'\nstatic = true\nmethod = '*'\ndesc = '()V'\n[[entry]]\n";
+
+/// Files, and what is wrong with them, if anything is.
+static FILES: [(&[u8], Option<TableFault>); 20] = [
+    (b"# \xff", Some(TableFault::Text)),
+    (b"row = ", Some(TableFault::Text)),
+    (b"[[row]", Some(TableFault::Text)),
+    (b"row = []\nrow = []", Some(TableFault::Text)),
+    (
+        b"row = [{ sink = [99999999999999999999] }]",
+        Some(TableFault::Text),
+    ),
+    (b"rows = []", Some(TableFault::UnknownKey)),
+    (b"row = 1", Some(TableFault::UnknownKey)),
+    (b"[row]", Some(TableFault::UnknownKey)),
+    (b"row = [{}, 1]", Some(TableFault::UnknownKey)),
+    (b"row = []\nentry = [[]]", Some(TableFault::UnknownKey)),
+    (b"row = [{}]\nentries = []", Some(TableFault::UnknownKey)),
+    (LATER_ROW, Some(TableFault::BadRow { row: 1 })),
+    (LATER_ENTRY, Some(TableFault::BadEntry { entry: 2 })),
+    (
+        b"row = [{ class = ['A'], method = 'm' }, { class = ['A'], method = 'm', sink = [-1] }]",
+        Some(TableFault::BadRow { row: 1 }),
+    ),
+    (
+        b"entry = [{ class = 'A', method = 'm', desc = '()V' }, { method = 'm', desc = '()V' }]",
+        Some(TableFault::BadEntry { entry: 1 }),
+    ),
+    (
+        b"entry = [{ class = 'A', method = 'm', desc = '()V' }, { class = 'A', desc = '()V' }]",
+        Some(TableFault::BadEntry { entry: 1 }),
+    ),
+    (
+        b"entry = [{ class = 'A', method = 'm', desc = '()V' }, { class = 'A', method = 'm', desc = '()V', marked = [-1] }]",
+        Some(TableFault::BadEntry { entry: 1 }),
+    ),
+    (b"", None),
+    (b"row = []\nentry = []", None),
+    (
+        b"row = [{ class = [''], method = '*', sink = [254, 0] }]",
+        None,
+    ),
+];
+
 #[test]
 fn broken_files(rt: HostRuntime) {
-    let second: &[u8] =
-        b"[[row]]\nclass = ['A']\nmethod = 'm'\n[[row]]\nclass = ['A']\nmethod = 'm'\nflow = 'maybe'\n[[entry]]\n";
-    let third: &[u8] =
-        b"[[entry]]\nclass = 'A'\nmethod = 'm'\ndesc = '()V'\n[[entry]]\nclass = '*'\nstatic = true\nmethod = '*'\ndesc = '()V'\n[[entry]]\n";
-    let cases: [(&[u8], Option<TableFault>); 20] = [
-        (b"# \xff", Some(TableFault::Text)),
-        (b"row = ", Some(TableFault::Text)),
-        (b"[[row]", Some(TableFault::Text)),
-        (b"row = []\nrow = []", Some(TableFault::Text)),
-        (
-            b"row = [{ sink = [99999999999999999999] }]",
-            Some(TableFault::Text),
-        ),
-        (b"rows = []", Some(TableFault::UnknownKey)),
-        (b"row = 1", Some(TableFault::UnknownKey)),
-        (b"[row]", Some(TableFault::UnknownKey)),
-        (b"row = [{}, 1]", Some(TableFault::UnknownKey)),
-        (b"row = []\nentry = [[]]", Some(TableFault::UnknownKey)),
-        (b"row = [{}]\nentries = []", Some(TableFault::UnknownKey)),
-        (second, Some(TableFault::BadRow { row: 1 })),
-        (third, Some(TableFault::BadEntry { entry: 2 })),
-        (
-            b"row = [{ class = ['A'], method = 'm' }, { class = ['A'], method = 'm', sink = [-1] }]",
-            Some(TableFault::BadRow { row: 1 }),
-        ),
-        (
-            b"entry = [{ class = 'A', method = 'm', desc = '()V' }, { method = 'm', desc = '()V' }]",
-            Some(TableFault::BadEntry { entry: 1 }),
-        ),
-        (
-            b"entry = [{ class = 'A', method = 'm', desc = '()V' }, { class = 'A', desc = '()V' }]",
-            Some(TableFault::BadEntry { entry: 1 }),
-        ),
-        (
-            b"entry = [{ class = 'A', method = 'm', desc = '()V' }, { class = 'A', method = 'm', desc = '()V', marked = [-1] }]",
-            Some(TableFault::BadEntry { entry: 1 }),
-        ),
-        (b"", None),
-        (b"row = []\nentry = []", None),
-        (
-            b"row = [{ class = [''], method = '*', sink = [254, 0] }]",
-            None,
-        ),
-    ];
-    for (bytes, fault) in &cases {
+    for (bytes, fault) in &FILES {
         assert_eq!(rt; fault_of(rt.alloc(), bytes), *fault);
     }
 }
 
+/// Files with one row, which is wrong.
+static ROWS: [&str; 24] = [
+    "row = [{ method = 'm' }]",
+    "row = [{ class = [], method = 'm' }]",
+    "row = [{ class = 'A', method = 'm' }]",
+    "row = [{ class = ['A', 1], method = 'm' }]",
+    "row = [{ class = ['A'] }]",
+    "row = [{ class = ['A'], method = '' }]",
+    "row = [{ class = ['A'], method = 'm', kind = 'a' }]",
+    "row = [{ class = ['A'], method = 'm', static = true }]",
+    "row = [{ class = ['A'], method = 'm', desc = 'I' }]",
+    "row = [{ class = ['A'], method = 'm', desc = 1 }]",
+    "row = [{ class = ['A'], method = 'm', flow = 'self' }]",
+    "row = [{ class = ['A'], method = 'm', effect = 'args' }]",
+    "row = [{ class = ['A'], method = 'm', result = 'none' }]",
+    "row = [{ class = ['A'], method = 'm', sink = 1 }]",
+    "row = [{ class = ['A'], method = 'm', sink = [-1] }]",
+    "row = [{ class = ['A'], method = 'm', sink = [255] }]",
+    "row = [{ class = ['A'], method = 'm', sink = [3, 4, 3] }]",
+    "row = [{ class = ['A'], method = 'm', sink = [1.0] }]",
+    "row = [{ class = ['A'], method = 'm', sink = [2026-01-01] }]",
+    "row = [{ class = ['A'], method = 1 }]",
+    "row = [{ class = ['A'], method = 'm', flow = 1 }]",
+    "row = [{ class = ['A'], method = 'm', effect = ['none'] }]",
+    "row = [{ class = ['A'], method = 'm', result = true }]",
+    "row = [{ class = ['A'], method = 'm', sink = ['0'] }]",
+];
+
 #[test]
 fn broken_rows(rt: HostRuntime) {
-    let rows = [
-        "row = [{ method = 'm' }]",
-        "row = [{ class = [], method = 'm' }]",
-        "row = [{ class = 'A', method = 'm' }]",
-        "row = [{ class = ['A', 1], method = 'm' }]",
-        "row = [{ class = ['A'] }]",
-        "row = [{ class = ['A'], method = '' }]",
-        "row = [{ class = ['A'], method = 'm', kind = 'a' }]",
-        "row = [{ class = ['A'], method = 'm', static = true }]",
-        "row = [{ class = ['A'], method = 'm', desc = 'I' }]",
-        "row = [{ class = ['A'], method = 'm', desc = 1 }]",
-        "row = [{ class = ['A'], method = 'm', flow = 'self' }]",
-        "row = [{ class = ['A'], method = 'm', effect = 'args' }]",
-        "row = [{ class = ['A'], method = 'm', result = 'none' }]",
-        "row = [{ class = ['A'], method = 'm', sink = 1 }]",
-        "row = [{ class = ['A'], method = 'm', sink = [-1] }]",
-        "row = [{ class = ['A'], method = 'm', sink = [255] }]",
-        "row = [{ class = ['A'], method = 'm', sink = [3, 4, 3] }]",
-        "row = [{ class = ['A'], method = 'm', sink = [1.0] }]",
-        "row = [{ class = ['A'], method = 'm', sink = [2026-01-01] }]",
-    ];
-    for text in &rows {
-        assert_eq!(rt;
-            fault_of(rt.alloc(), text.as_bytes()),
-            Some(TableFault::BadRow { row: 0 })
-        );
+    for text in &ROWS {
+        let fault = fault_of(rt.alloc(), text.as_bytes());
+        assert_eq!(rt; fault, Some(TableFault::BadRow { row: 0 }));
     }
 }
 
+/// Files with one entry, which is wrong.
+static ENTRIES: [&str; 16] = [
+    "entry = [{ class = '*', method = 'm', desc = '()V' }]",
+    "entry = [{ class = '*', method = 'm', desc = '()V', static = false }]",
+    "entry = [{ class = ['A'], method = 'm', desc = '()V' }]",
+    "entry = [{ class = 'A', method = '', desc = '()V' }]",
+    "entry = [{ class = 'A', method = 'm' }]",
+    "entry = [{ class = 'A', method = 'm', desc = '()' }]",
+    "entry = [{ class = 'A', method = 'm', desc = '()V', static = 1 }]",
+    "entry = [{ class = 'A', method = 'm', desc = '()V', marked = [0, 0] }]",
+    "entry = [{ class = 'A', method = 'm', desc = '()V', sink = [0] }]",
+    "entry = [{ class = 'A', method = 1, desc = '()V' }]",
+    "entry = [{ class = 'A', method = 'm', desc = 1 }]",
+    "entry = [{ class = 'A', method = 'm', desc = 'I' }]",
+    "entry = [{ class = 'A', method = 'm', desc = '()V', static = 'true' }]",
+    "entry = [{ class = 'A', method = 'm', desc = '()V', marked = 0 }]",
+    "entry = [{ class = 'A', method = 'm', desc = '()V', marked = [255] }]",
+    "entry = [{ class = 'A', method = 'm', desc = '()V', marked = [true] }]",
+];
+
 #[test]
 fn broken_entries(rt: HostRuntime) {
-    let entries = [
-        "entry = [{ class = '*', method = 'm', desc = '()V' }]",
-        "entry = [{ class = '*', method = 'm', desc = '()V', static = false }]",
-        "entry = [{ class = ['A'], method = 'm', desc = '()V' }]",
-        "entry = [{ class = 'A', method = '', desc = '()V' }]",
-        "entry = [{ class = 'A', method = 'm' }]",
-        "entry = [{ class = 'A', method = 'm', desc = '()' }]",
-        "entry = [{ class = 'A', method = 'm', desc = '()V', static = 1 }]",
-        "entry = [{ class = 'A', method = 'm', desc = '()V', marked = [0, 0] }]",
-        "entry = [{ class = 'A', method = 'm', desc = '()V', sink = [0] }]",
-    ];
-    for text in &entries {
-        assert_eq!(rt;
-            fault_of(rt.alloc(), text.as_bytes()),
-            Some(TableFault::BadEntry { entry: 0 })
-        );
+    for text in &ENTRIES {
+        let fault = fault_of(rt.alloc(), text.as_bytes());
+        assert_eq!(rt; fault, Some(TableFault::BadEntry { entry: 0 }));
     }
 }
 
@@ -165,6 +182,14 @@ fn default_look_ups(rt: HostRuntime) -> Result<(), Fail> {
         matches!(
             row,
             Some((RowFlow::Args, RowEffect::Quiet, RowResult::Fresh, 0))
+        )
+    );
+    // The row for `<init>` stands before the one for all methods of the class.
+    let row = said(alloc, &table, b"java/lang/String", b"<init>", b"()V")?;
+    assert!(rt;
+        matches!(
+            row,
+            Some((RowFlow::Args, RowEffect::Absorb, RowResult::Fresh, 0))
         )
     );
     let row = said(alloc, &table, b"java/lang/Object", b"<init>", b"(I)V")?;
