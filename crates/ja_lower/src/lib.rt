@@ -2,7 +2,6 @@
 #![tactic(auto)]
 
 mod answer;
-mod copy;
 mod fault;
 mod law;
 mod methods;

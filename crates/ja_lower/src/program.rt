@@ -1,11 +1,14 @@
-ghost use Rattle.std.specs.Prelude.{◌≡◌, All, IfOk, IfErr, OnOk, length};
+ghost use Rattle.std.specs.Prelude.{◌≡◌, ◌⊎◌, All, IfOk, IfErr, MatchResult, OnOk, length};
+ghost use Rattle.ja_base.specs.declared.refusal.Refusal.{Refusal};
+ghost use Rattle.ja_ir.specs.declared.program.Parts.{Parts};
 ghost use Rattle.ja_class.specs.ClassFile.{IsSpelled};
 ghost use Rattle.ja_hier.specs.Faults.{IsHierarchy};
 ghost use Rattle.ja_hier.specs.Members.{IsNumbered};
-ghost use Rattle.ja_lower.specs.Program.{AreFew, IsLowerFault, IsProgramOf, heads_of};
+ghost use Rattle.ja_lower.specs.Program.{AreFew, IsLowerFault, IsProgramOf, IsRefusedWhole, heads_of};
+ghost use Rattle.ja_lower.specs.declared.fault.LowerFault.TheVariants as faults;
 
 use crate::LowerFault;
-use crate::copy::copy_head;
+use crate::law::law_one_program;
 use crate::methods::code_of;
 use crate::refusal::hier_fault;
 use ja_base::{Memory, Names, Seq};
@@ -15,6 +18,7 @@ use ja_ir::{ClassHead, Program};
 use ja_lib::Table;
 use ja_methods::law_whole_method;
 use ja_outline::{class_infos, entries, fields};
+use ja_supers::copy_head;
 use std::alloc::Global;
 use std::thread::Threads;
 
@@ -39,8 +43,16 @@ pub fn lower<R: Threads + Sync>(
 ) -> Result<Program, LowerFault>
     requires files { length names.now ≡ length classes.now }
     requires few { AreFew classes.now }
+    // What is answered is the program.
     ensures program { IfOk result (IsProgramOf names.now classes.now t.now) }
+    // The program is answered where there is one, unless memory runs out.
+    ensures only { (p : Parts) → IsProgramOf names.now classes.now t.now p →
+        MatchResult result (λ program. program ≡ p) (λ f. f ≡ faults.Memory) }
+    // An error is the first refusal, or want of memory.
     ensures refused { IfErr result (IsLowerFault names.now classes.now) }
+    // The first refusal is the error, unless memory runs out.
+    ensures first { (refusal : Refusal) → IsRefusedWhole names.now classes.now refusal →
+        MatchResult result (λ _. ⊥) (λ f. (f ≡ faults.Memory) ⊎ (f ≡ faults.Refused refusal)) }
 {
     lower_in_pieces(rt, alloc, names, classes, t, LEAST_METHODS)
 }
@@ -52,6 +64,32 @@ pub fn lower<R: Threads + Sync>(
 ///
 /// Those of `lower`.
 pub fn lower_in_pieces<R: Threads + Sync>(
+    rt: &R,
+    alloc: Global,
+    names: &Names,
+    classes: &[Class],
+    t: &Table,
+    least: usize,
+) -> Result<Program, LowerFault>
+    requires files { length names.now ≡ length classes.now }
+    requires few { AreFew classes.now }
+    // What is answered is the program.
+    ensures program { IfOk result (IsProgramOf names.now classes.now t.now) }
+    // The program is answered where there is one, unless memory runs out.
+    ensures only { (p : Parts) → IsProgramOf names.now classes.now t.now p →
+        MatchResult result (λ program. program ≡ p) (λ f. f ≡ faults.Memory) }
+    // An error is the first refusal, or want of memory.
+    ensures refused { IfErr result (IsLowerFault names.now classes.now) }
+    // The first refusal is the error, unless memory runs out.
+    ensures first { (refusal : Refusal) → IsRefusedWhole names.now classes.now refusal →
+        MatchResult result (λ _. ⊥) (λ f. (f ≡ faults.Memory) ⊎ (f ≡ faults.Refused refusal)) }
+{
+    law_one_program();
+    program_or_refusal(rt, alloc, names, classes, t, least)
+}
+
+/// The program, or the first refusal.
+fn program_or_refusal<R: Threads + Sync>(
     rt: &R,
     alloc: Global,
     names: &Names,

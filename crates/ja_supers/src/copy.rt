@@ -15,7 +15,8 @@ pub fn copy_heads(alloc: Global, heads: &[ClassHead]) -> Result<Seq<ClassHead>, 
     Ok(copies)
 }
 
-fn copy_head(alloc: Global, head: &ClassHead) -> Result<ClassHead, Memory>
+/// The same class head.
+pub fn copy_head(alloc: Global, head: &ClassHead) -> Result<ClassHead, Memory>
     ensures { IfOk result (λ copy. copy ≡ head.now) }
 {
     let name = head.name.copy(alloc)?;

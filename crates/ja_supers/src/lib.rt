@@ -18,5 +18,6 @@ mod superclasses;
 mod tables;
 
 pub use classes::{Classes, classes_of};
+pub use copy::copy_head;
 pub use fault::ClassFault;
 pub use law::law_one_list;

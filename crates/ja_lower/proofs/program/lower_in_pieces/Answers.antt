@@ -1,26 +1,41 @@
-use Rattle.std.proofs.Common.{List, subst}
-use Rattle.ja_ir.specs.declared.head.ClassHead.{ClassHead}
+use Rattle.std.proofs.Common.{◌≡◌, ◌⊎◌, inl, inr, ℕ, List, Result, Ok, Err, refl, ap}
+use Rattle.std.specs.Prelude.{IfOk, IfErr, MatchResult}
+use Rattle.ja_base.specs.declared.refusal.Refusal.{Refusal}
 use Rattle.ja_ir.specs.declared.program.Parts.{Parts}
-use Rattle.ja_outline.specs.Classes.{AreClassInfos}
-use Rattle.ja_outline.specs.Entries.{AreEntries}
-use Rattle.ja_outline.specs.Fields.{AreFields}
-use Rattle.ja_lower.specs.Program.{IsProgramOf}
-use Rattle.ja_lower.proofs.Described.{described}
-use Rattle.ja_lower.proofs.Named.{whole-parts}
-use Rattle.ja_lower.proofs.WholeProgram.{whole-program}
+use Rattle.ja_class.specs.Meaning.{ClassSpelled}
+use Rattle.ja_lib.specs.Content.{Content}
+use Rattle.ja_lower.specs.declared.fault.LowerFault.{LowerFault}
+use Rattle.ja_lower.specs.declared.fault.LowerFault.TheVariants as faults
+use Rattle.ja_lower.specs.Program.{IsLowerFault, IsProgramOf, IsRefusedWhole}
 use Rattle.ja_lower.proofs.program.lower_in_pieces.Goals as goal
 
-pub new-requires : goal.new-requires
-new-requires g c =
-    let p : Parts = record { classes = c.in_ok-infos.infos; methods = c.in_ok-code.code.methods; fields = c.in_ok-fields.fields; entries = c.in_ok-entries.entries; sites = c.in_ok-code.code.sites } in
-    let program : IsProgramOf c.args.names.now c.args.classes.now c.args.t.now p =
-    record {
-      hierarchy = c.in_ok-hier.ensures.valid;
-      infos = subst (λ (l : List ClassHead). AreClassInfos l c.args.names.now c.in_ok-infos.infos) c.in_ok-hier.ensures.heads c.in_ok-infos.ensures;
-      methods = c.in_ok-code.ensures.methods;
-      fields = subst (λ (l : List ClassHead). AreFields l c.in_ok-fields.fields) c.in_ok-hier.ensures.heads c.in_ok-fields.ensures;
-      entries = subst (λ (l : List ClassHead). AreEntries l c.args.t.now c.in_ok-entries.entries) c.in_ok-hier.ensures.heads c.in_ok-entries.ensures;
-      sites = c.in_ok-code.ensures.sites;
-    } in
-    whole-program c.args.names.now c.args.classes.now c.args.t.now p c.requires.few program (described c.args.classes.now c.in_ok-hier.ensures.spelled)
-    (whole-parts c.law_whole_method.ensures c.args.t.now.rows c.args.classes.now c.in_ok-hier.ensures.spelled)
+module _ (files : List (List ℕ)) (classes : List ClassSpelled) (content : Content) where
+  only : ((p other : Parts) → IsProgramOf files classes content p → IsProgramOf files classes content other → p ≡ other)
+      → ((p : Parts) (refusal : Refusal) → IsProgramOf files classes content p → IsRefusedWhole files classes refusal → ⊥)
+      → (result : Result Parts LowerFault) → IfOk result (IsProgramOf files classes content) → IfErr result (IsLowerFault files classes)
+      → (p : Parts) → IsProgramOf files classes content p → MatchResult result (λ program. program ≡ p) (λ f. f ≡ faults.Memory)
+  only one both (Ok program) ok err p is = one program p ok is
+  only one both (Err faults.Memory) ok err p is = refl
+  only one both (Err (faults.Refused refusal)) ok err p is = absurd (both p refusal is err)
+
+  first : ((refusal other : Refusal) → IsRefusedWhole files classes refusal → IsRefusedWhole files classes other → refusal ≡ other)
+      → ((p : Parts) (refusal : Refusal) → IsProgramOf files classes content p → IsRefusedWhole files classes refusal → ⊥)
+      → (result : Result Parts LowerFault) → IfOk result (IsProgramOf files classes content) → IfErr result (IsLowerFault files classes)
+      → (refusal : Refusal) → IsRefusedWhole files classes refusal → MatchResult result (λ _. ⊥) (λ f. (f ≡ faults.Memory) ⊎ (f ≡ faults.Refused refusal))
+  first one both (Ok program) ok err refusal is = both program refusal ok is
+  first one both (Err faults.Memory) ok err refusal is = inl refl
+  first one both (Err (faults.Refused other)) ok err refusal is = inr (ap faults.Refused (one other refusal err is))
+
+pub returns-clause-only : goal.returns-clause-only
+returns-clause-only g c =
+    only c.args.names.now c.args.classes.now c.args.t.now
+    (c.law_one_program.ensures.one_program c.args.names.now c.args.classes.now c.args.t.now)
+    (c.law_one_program.ensures.not_both c.args.names.now c.args.classes.now c.args.t.now)
+    c.program_or_refusal.result c.program_or_refusal.ensures.program c.program_or_refusal.ensures.refused
+
+pub returns-clause-first : goal.returns-clause-first
+returns-clause-first g c =
+    first c.args.names.now c.args.classes.now c.args.t.now
+    (c.law_one_program.ensures.one_refusal c.args.names.now c.args.classes.now)
+    (c.law_one_program.ensures.not_both c.args.names.now c.args.classes.now c.args.t.now)
+    c.program_or_refusal.result c.program_or_refusal.ensures.program c.program_or_refusal.ensures.refused
