@@ -112,7 +112,7 @@ module _ (pool : Pool) where
       by (Some start) None handler s e t h = absurd (h tt)
       by (Some start) (Some end) None s e t h = absurd (h tt)
       by (Some start) (Some end) (Some handler) s e t h =
-          record { start = start; end = end; handler = handler; start_is = s; end_is = e; handler_is = t; some = omega (arith, few end start (λ lt. h (omega (arith, lt)))); keys = keys }
+          record { start = start; end = end; handler = handler; start_is = s; end_is = e; handler_is = t; some = omega (arith, few end (start + 1) (λ lt. h (inl (omega (arith, lt))))); keys = keys }
 
   module _ (whole : List Labelled) where
     ranges_right : (b : Body) (items : List Item) → has_code b.member.flags ≡ true → AllStand (Some b) items → AllByRecursion (IsNamed pool) items

@@ -157,9 +157,10 @@ IsCrowded flags words = (bit_and flags.size 8 ≡ 0) × (254 < words)
 abbrev pub HasNoRoom : Number → List ℕ → Type 0
 HasNoRoom flags desc = (params : List JavaType) × (result : Option JavaType) × IsMethod desc params result × IsCrowded flags (words_of_all params)
 
--- the labels of an entry of an exception table that are not there, or in the wrong order
+-- the labels of an entry of an exception table that are not there, or in the wrong order, or at a place that does not fit the
+-- two bytes that the entry has for it
 abbrev pub IsNoRange : Option ℕ → Option ℕ → Option ℕ → Type 0
-IsNoRange (Some start) (Some end) (Some handler) = end ≤ start
+IsNoRange (Some start) (Some end) (Some handler) = (end ≤ start) ⊎ (65535 < end) ⊎ (65535 < handler)
 IsNoRange _ _ _ = Unit {0}
 
 abbrev pub IsNoCatch : Option (List ℕ) → Type 0

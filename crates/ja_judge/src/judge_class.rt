@@ -158,9 +158,11 @@ pub fn judge(alloc: Global, listing: &Listing) -> Result<Wants, MakeFault>
 /// to 4.7).
 ///
 /// An error is the number of the first item that cannot be, or want of memory. An item cannot be written where
-/// its flags, numbers, names, descriptors or operands do not fit, where its label is nowhere or too far, where
-/// its method has no code, and where with it the class has too many entries in its pool, too many members, or
-/// its method too much code or too many entries in its exception table.
+/// its opcode is refused; where its flags, numbers, names, descriptors or operands do not fit; where its label is
+/// nowhere or too far; where its range is empty, or its range or its handler does not fit an exception table;
+/// where it is an instruction or an entry of an exception table, and its method has no code; where it is a method
+/// that needs code and has no instruction; and where with it the class has too many entries in its pool or too
+/// many members, or its method too much code or too many entries in its exception table.
 pub fn check_class(alloc: Global, listing: &Listing) -> Result<(), MakeFault>
     // Where there is no error, each item can be written.
     ensures ok { OnOk result (IsWritable listing.now) }

@@ -18,6 +18,9 @@ use ja_base::Name;
 use ja_listing::{Frame, Head, Item, Number, Operand};
 use std::alloc::Global;
 
+/// The last place of the code that an entry of an exception table has room for (JVM specification 4.7.3).
+const MAX_PLACE: u64 = 65535;
+
 /// Whether an instruction stands behind the beginning of a method, before the next method.
 fn has_instruction(behind: &[Item]) -> bool
     ensures { (superclass : List ℕ) → is_some_of (instructions_in superclass behind.now) ≡ result }
@@ -94,7 +97,11 @@ fn judge_range(place: &Place, start: &Name, end: &Name, handler: &Name) -> Resul
         place_of(place, end),
         place_of(place, handler),
     ) {
-        (Some(start), Some(end), Some(_)) => demand(start < end),
+        (Some(start), Some(end), Some(handler)) => {
+            demand(start < end)?;
+            demand(end <= MAX_PLACE)?;
+            demand(handler <= MAX_PLACE)
+        }
         _ => Err(Flaw::Unwritable),
     }
 }

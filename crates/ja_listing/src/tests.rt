@@ -55,31 +55,77 @@ r: return ;; try a b h any",
 ];
 
 /// Listings that break the notation, and the number of the first item that does.
-const BROKEN: [(&str, u64); 24] = [
+static BROKEN: [(&str, u64); 63] = [
+    // No class yet, or none with these words.
     ("field 0 a I", 0),
+    ("method 9 m ()V 1 1", 0),
+    ("try a b h any", 0),
     ("return", 0),
     ("$I", 0),
     ("class A B", 0),
     ("class A B 33 x", 0),
     ("class A B x3", 0),
+    ("class A$I B 33", 0),
     ("class A$X B 33", 0),
+    ("class A$Y B 33", 0),
+    ("class \"A\" B 33", 0),
+    // No method yet in this class.
     ("class A B 33 ;; return", 1),
     ("class A B 33 ;; try a b h any", 1),
+    ("class A B 33 ;; $I ;; class C D 33 ;; return", 3),
+    // Fields and methods.
+    ("class A B 33 ;; field 0 a", 1),
+    ("class A B 33 ;; field 0 a I x", 1),
+    ("class A B 33 ;; field x a I", 1),
+    ("class A B 33 ;; method x m ()V 1 1", 1),
     ("class A B 33 ;; method 9 m ()V", 1),
+    ("class A B 33 ;; method 9 m ()V 1 1 1", 1),
+    ("class A B 33 ;; method 9 m ()V x 1", 1),
+    ("class A B 33 ;; method 9 m ()V 1 x", 1),
+    ("class A B 33 ;; method 257 m ()V 0 0", 1),
     ("class A B 33 ;; method 1025 m ()V 0 0", 1),
     ("class A B 33 ;; $I x", 1),
+    // Labels.
     ("class A B 33 ;; $I ;; ;; \n nop ;; a: $I", 3),
     ("class A B 33 ;; $I ;; a: nop ;; a: nop", 3),
     ("class A B 33 ;; $I ;; a:", 2),
+    // Entries of an exception table.
+    ("class A B 33 ;; $I ;; try a b a", 2),
+    ("class A B 33 ;; $I ;; try a b a any x", 2),
+    // Instructions.
     ("class A B 33 ;; $I ;; nope", 2),
+    ("class A B 33 ;; $I ;; \"nop\"", 2),
     ("class A B 33 ;; $I ;; nop 1", 2),
+    ("class A B 33 ;; $I ;; bipush", 2),
+    ("class A B 33 ;; $I ;; bipush x", 2),
+    ("class A B 33 ;; $I ;; bipush -", 2),
+    ("class A B 33 ;; $I ;; bipush 1 2", 2),
+    ("class A B 33 ;; $I ;; iinc 0", 2),
+    ("class A B 33 ;; $I ;; iinc 0 x", 2),
+    ("class A B 33 ;; $I ;; goto", 2),
+    ("class A B 33 ;; $I ;; goto a b", 2),
+    ("class A B 33 ;; $I ;; new", 2),
+    ("class A B 33 ;; $I ;; new A B", 2),
+    ("class A B 33 ;; $I ;; new \"A\"", 2),
+    ("class A B 33 ;; $I ;; multianewarray [I", 2),
+    ("class A B 33 ;; $I ;; multianewarray [I x", 2),
+    ("class A B 33 ;; $I ;; getfield A x", 2),
+    ("class A B 33 ;; $I ;; getfield A.x", 2),
+    ("class A B 33 ;; $I ;; getfield A.x I J", 2),
+    ("class A B 33 ;; $I ;; invokestatic A.x", 2),
+    ("class A B 33 ;; $I ;; invokestatic m()V", 2),
+    ("class A B 33 ;; $I ;; ldc", 2),
     ("class A B 33 ;; $I ;; ldc x", 2),
+    ("class A B 33 ;; $I ;; ldc \"a\" \"b\"", 2),
     ("class A B 33 ;; $I ;; ldc \"x ;; nop", 2),
     ("class A B 33 ;; $I ;; ldc \"x\"y", 2),
+    ("class A B 33 ;; $I ;; ldc x\"y\"", 2),
+    // Opcodes that the notation has not.
+    ("class A B 33 ;; $I ;; wide", 2),
     ("class A B 33 ;; $I ;; ldc_w \"x\"", 2),
-    ("class A B 33 ;; $I ;; getfield A x", 2),
-    ("class A B 33 ;; $I ;; invokestatic A.x", 2),
+    ("class A B 33 ;; $I ;; ldc2_w 1", 2),
     ("class A B 33 ;; $I ;; tableswitch", 2),
+    ("class A B 33 ;; $I ;; lookupswitch", 2),
 ];
 
 #[test]
@@ -92,9 +138,10 @@ fn listings_are_read(rt: HostRuntime) {
 
 #[test]
 fn first_broken_items(rt: HostRuntime) {
-    for (text, line) in BROKEN {
+    for (text, line) in &BROKEN {
         let read = read_listing(rt.alloc(), text.as_bytes());
-        assert!(rt; matches!(read, Err(MakeFault::BadListing { line: found }) if found == line));
+        let broken = MakeFault::BadListing { line: *line };
+        assert_eq!(rt; read.err(), Some(broken), "at {text}");
     }
 }
 

@@ -21,18 +21,18 @@ fn unwritable(rt: &(impl Abort + AllocGlobal), text: &[u8]) -> Option<u64> {
             }
             Err(fault) => {
                 assert_eq!(rt; judged, Err(fault));
-                return number_of(fault);
+                return Some(number_of(rt, fault));
             }
         }
     }
     None
 }
 
-/// The number in a fault.
-fn number_of(fault: MakeFault) -> Option<u64> {
+/// The number in a fault, which is no want of memory.
+fn number_of(rt: &impl Abort, fault: MakeFault) -> u64 {
     match fault {
-        MakeFault::BadListing { line } => Some(line),
-        MakeFault::Memory => None,
+        MakeFault::BadListing { line } => line,
+        MakeFault::Memory => panic!(rt; "memory for a class"),
     }
 }
 
@@ -225,7 +225,7 @@ fn repeated(
 type Repetition = (&'static str, &'static str, u64, &'static str, Option<u64>);
 
 /// Classes at the limits and beyond.
-static LIMITS: [Repetition; 32] = [
+static LIMITS: [Repetition; 37] = [
     // 255 strings, and one more.
     (
         "method 9 m ()V 1 1 ;; ",
@@ -364,6 +364,36 @@ static LIMITS: [Repetition; 32] = [
         "nop",
         Some(13109),
     ),
+    // A range that ends at pc 65,535, where the last instruction is too much, and one that ends one byte further.
+    (
+        "method 9 m ()V 1 1 ;; try a b a any ;; a: goto_w a ;; ",
+        "goto_w a ;; ",
+        13106,
+        "b: return",
+        Some(13110),
+    ),
+    (
+        "method 9 m ()V 1 1 ;; try a b a any ;; a: nop ;; ",
+        "goto_w a ;; ",
+        13107,
+        "b: return",
+        Some(2),
+    ),
+    // A handler at pc 65,535, and one byte further.
+    (
+        "method 9 m ()V 1 1 ;; try a c b any ;; a: goto_w a ;; c: goto_w a ;; ",
+        "goto_w a ;; ",
+        13105,
+        "b: return",
+        Some(13110),
+    ),
+    (
+        "method 9 m ()V 1 1 ;; try a c b any ;; a: nop ;; c: goto_w a ;; ",
+        "goto_w a ;; ",
+        13106,
+        "b: return",
+        Some(2),
+    ),
     // 65,534 entries of the pool, and one more.
     (
         "method 9 m ()V 1 1 ;; ",
@@ -382,6 +412,7 @@ static LIMITS: [Repetition; 32] = [
     // 65,535 fields and one more, as many methods, and as many entries of an exception table.
     ("", "field 0 x I ;; ", 65536, "", Some(65536)),
     ("", "method 1025 m ()V ;; ", 65536, "", Some(65536)),
+    ("", "method 1025 m ()V ;; ", 65535, "$I", Some(65536)),
     (
         "method 9 m ()V 1 1 ;; a: nop ;; b: return ;; ",
         "try a b a any ;; ",

@@ -3,7 +3,7 @@ use listing_files::ListingFault;
 use std::io::{self, ErrorKind};
 
 /// Why the classes of a listing are not written.
-#[derive(Clone, Copy)]
+#[derive(Drop)]
 pub enum Failure {
     /// There are not two words.
     Words,
@@ -13,17 +13,19 @@ pub enum Failure {
     Unread { place: u64 },
     /// Reading or writing failed, or a name is no path below the directory.
     Files,
+    /// Two classes go to the file of this name.
+    Twice { name: String },
     /// Memory ran out.
     Memory,
 }
 
 impl Failure {
     /// The exit status.
-    pub fn status(self) -> u8 {
+    pub fn status(&self) -> u8 {
         match self {
             Failure::Words => 2,
             Failure::Item { .. } => 3,
-            Failure::Files => 4,
+            Failure::Files | Failure::Twice { .. } => 4,
             Failure::Unread { .. } => 5,
             Failure::Memory => 7,
         }
