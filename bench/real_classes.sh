@@ -4,7 +4,8 @@
 # Usage: bench/real_classes.sh DIR
 set -eu
 cd "$1"
-apt-get download libcommons-lang3-java libguava-java libxerces2-java libbcprov-java libtomcat9-java >/dev/null
+packages="libcommons-lang3-java libguava-java libxerces2-java libbcprov-java libtomcat9-java"
+apt-get download $packages >/dev/null || { echo "apt-get knows no place for $packages: apt-get update helps" >&2; exit 1; }
 for package in *.deb; do dpkg -x "$package" unpacked; done
 python3 - <<'P'
 # Class files of version 52 or less, each once; an archive may have the same class for several versions.
