@@ -88,7 +88,8 @@ pub data ClassSearch (heads : List ClassHead) (skip : Skip) (name desc : List �
       → ClassSearch heads skip name desc d found → ClassSearch heads skip name desc c found
   at_end : {c : ℕ} → method_in heads skip name desc c ≡ None → superclass_of heads c ≡ None → ClassSearch heads skip name desc c None
 
--- method k of the superinterface i of class c has code and may be inherited from there
+-- method k of the superinterface i of class c has code and may be inherited from there; a method without code is no
+-- candidate and hides none, unlike in 5.4.3.3
 pub record IsCandidate (heads : List ClassHead) (name desc : List ℕ) (c i k : ℕ) : Type 0 where
   pub above : IsSuperinterface heads c i
   pub declared : method_in heads NoDefault name desc i ≡ Some k

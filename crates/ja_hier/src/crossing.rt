@@ -92,9 +92,9 @@ fn hides(head: &ClassHead, above: &ClassHead, places: &NumbersByName, method: &H
     requires { HasPlaces (member_names Method above.now) places.now }
     ensures { IsTrue result ↔ Hides head.now above.now method.now }
 {
-    declares_hidden(&above.methods, places, method)
+    !same_package(&head.name, &above.name)
         && !is_constructor(method)
-        && !same_package(&head.name, &above.name)
+        && declares_hidden(&above.methods, places, method)
 }
 
 /// Whether the method is a constructor (JVM specification 2.9.1).

@@ -173,6 +173,7 @@ fn straight_field(
         return None;
     };
     match field_in(tables, lowest, name, desc) {
+        // The lowest class declares it.
         None => None,
         Some(place) => Some(field_number(tables, lowest, place, name, desc)),
     }
@@ -222,6 +223,7 @@ fn declared_field(tables: &Tables, class: u32, name: &Name, desc: &Name, listed:
             return field;
         }
         let Some(next) = next_above(tables, fork, name, desc, listed) else {
+            // Some class above declares it, so the way up does not end here.
             return FieldId(0);
         };
         at = next;

@@ -184,7 +184,8 @@ impl Hier {
 
     /// Where the look-up of a method that is named in a class ends: the first declaration in the class
     /// and its program superclasses upwards, else the one method with code that is left among the
-    /// superinterfaces (JVM specification 5.4.3.3), else the library. It takes no memory.
+    /// superinterfaces (JVM specification 5.4.3.3, but that an abstract method hides none here), else the
+    /// library. It takes no memory.
     pub fn find_method(&self, c: ClassId, name: &Name, desc: &Name) -> MethodAt
         requires { c.0 < length self.now }
         ensures { Finds self.now NoMethod name.now desc.now c.0 result }

@@ -147,6 +147,7 @@ fn class_search(
         return None;
     };
     match method_in(tables, skip, above, name, desc) {
+        // The nearest superclass declares it.
         None => None,
         Some(place) => Some(answer(tables, skip, above, place, name, desc)),
     }
