@@ -18,8 +18,8 @@ use Rattle.ja_hier.specs.declared.starts.Member.TheVariants.{Field, Method}
 use Rattle.ja_hier.specs.Index.{member_names, Covers, IsIndexOf, IsNoted}
 use Rattle.ja_hier.specs.Members.{count_of}
 use Rattle.ja_hier.specs.LookUps.{fields_of, methods_of, field_in, method_in, skips}
-use Rattle.ja_supers.specs.Supertypes.{AreSupertypes}
-use Rattle.ja_supers.proofs.Falls.{supertype-target}
+use Rattle.ja_supertypes.specs.Supertypes.{AreSupertypes}
+use Rattle.ja_supertypes.proofs.Falls.{supertype-target}
 use Rattle.ja_hier.proofs.Numbers.{no-field, no-method}
 
 pub contains-map : {X : Type 0} (f : X → List ℕ) (xs : List X) (x : X) → Contains xs x → Contains (map f xs) (f x)

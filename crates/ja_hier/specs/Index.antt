@@ -5,8 +5,8 @@ use Rattle.ja_index.specs.Numbers.{numbers_at, number_if}
 use Rattle.ja_ir.specs.declared.head.ClassHead.{ClassHead}
 use Rattle.ja_ir.specs.declared.head.HeadField.{HeadField}
 use Rattle.ja_ir.specs.declared.head.HeadMethod.{HeadMethod}
-use Rattle.ja_supers.specs.Faults.{AreClasses}
-use Rattle.ja_supers.specs.Supertypes.{supertypes_of, IsAtOrAbove, IsDirect, IsSuperclass, IsSuperinterface, IsSupertype}
+use Rattle.ja_supertypes.specs.Faults.{AreClasses}
+use Rattle.ja_supertypes.specs.Supertypes.{supertypes_of, IsAtOrAbove, IsDirect, IsSuperclass, IsSuperinterface, IsSupertype}
 use Rattle.ja_hier.specs.declared.tables.Tables.{Tables}
 use Rattle.ja_hier.specs.declared.skip.Skip.{Skip}
 use Rattle.ja_hier.specs.declared.skip.Skip.TheVariants.{NoDefault}

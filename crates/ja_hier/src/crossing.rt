@@ -1,7 +1,7 @@
 ghost use Rattle.std.specs.Prelude.{◌≡◌, ℕ, ◌<◌, ◌↔◌, Some, codes, is_some, length, map, slice_get, IsTrue, IfErr, IfSome, IfNone, OnOk};
 ghost use Rattle.ja_ir.specs.declared.head.HeadMethod.{HeadMethod};
 ghost use Rattle.ja_hier.specs.declared.starts.Member.TheVariants.{Method};
-ghost use Rattle.ja_supers.specs.Faults.{IsFirst, IsNowhere};
+ghost use Rattle.ja_supertypes.specs.Faults.{IsFirst, IsNowhere};
 ghost use Rattle.ja_hier.specs.Faults.{IsFault, IsCrossing, Hides, Crosses, CrossesPackage};
 ghost use Rattle.ja_hier.specs.Index.{first_place, is_hidden, member_names, HasPlaces, HidesAt, IsHiddenAmong, IsIndexed};
 

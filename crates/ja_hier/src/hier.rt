@@ -4,9 +4,9 @@ ghost use Rattle.ja_hier.specs.Faults.{IsFault, IsHierarchy};
 ghost use Rattle.ja_hier.specs.Index.{IsIndexed};
 ghost use Rattle.ja_hier.specs.Members.{IsNumbered};
 ghost use Rattle.ja_hier.specs.LookUps.{FindsField, Finds};
-ghost use Rattle.ja_supers.specs.LibraryTypes.{AreLibraryTypes, IsNearest};
-ghost use Rattle.ja_supers.specs.Supertypes as supertypes;
-ghost use Rattle.ja_supers.specs.Supertypes.{superclass_of, AreSupertypes, IsAtOrAbove, IsSuperclass};
+ghost use Rattle.ja_supertypes.specs.LibraryTypes.{AreLibraryTypes, IsNearest};
+ghost use Rattle.ja_supertypes.specs.Supertypes as supertypes;
+ghost use Rattle.ja_supertypes.specs.Supertypes.{superclass_of, AreSupertypes, IsAtOrAbove, IsSuperclass};
 
 use crate::crossing::check_packages;
 use crate::forks::forks;
@@ -17,7 +17,7 @@ use crate::tables::Tables;
 use crate::{FieldAt, HierFault, fields, methods};
 use ja_base::{ClassId, Name, Names, Numbers, Seq};
 use ja_ir::{ClassHead, MethodAt};
-use ja_supers::{Classes, classes_of};
+use ja_supertypes::{Classes, classes_of};
 use std::alloc::Global;
 use std::marker::Model;
 

@@ -2,7 +2,7 @@ ghost use Rattle.std.specs.Prelude.{◌≡◌, ℕ, ◌<◌, ◌↔◌, false, S
 ghost use Rattle.ja_index.specs.Numbers.{numbers_at};
 ghost use Rattle.ja_hier.specs.declared.skip.Skip.TheVariants.{NoDefault};
 ghost use Rattle.ja_hier.specs.Index.{first_place, is_method, Covers, Inherits, IsLowest, IsIndexed, IsSomeCandidate, IsSomePlace, IsOverridden, Overrides, IsSomeLeft, IsOtherLeft, IsLeftNumber};
-ghost use Rattle.ja_supers.specs.Supertypes.{IsSuperclass};
+ghost use Rattle.ja_supertypes.specs.Supertypes.{IsSuperclass};
 ghost use Rattle.ja_hier.specs.LookUps.{method_in, method_number, answer_at, ClassSearch, FindsDefault, Finds};
 
 use crate::above::{fewer, is_below};

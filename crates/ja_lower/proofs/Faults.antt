@@ -6,7 +6,7 @@ use Rattle.ja_ir.specs.declared.head.ClassHead.{ClassHead}
 use Rattle.ja_ir.specs.declared.method.Method.{Method}
 use Rattle.ja_class.specs.Meaning.{ClassSpelled}
 use Rattle.ja_lib.specs.declared.row.TableRow.{TableRow}
-use Rattle.ja_supers.proofs.Falls.{supertype-target}
+use Rattle.ja_supertypes.proofs.Falls.{supertype-target}
 use Rattle.ja_hier.specs.declared.fault.HierFault.{HierFault}
 use Rattle.ja_hier.specs.declared.fault.HierFault.TheVariants.{PlatformClass, Duplicate, Cycle, CrossPackage, Memory}
 use Rattle.ja_hier.specs.Faults.{IsFault, IsHierarchy}

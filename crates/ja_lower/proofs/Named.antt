@@ -30,13 +30,13 @@ use Rattle.ja_hier.specs.Members.{count_of}
 use Rattle.ja_kinds.specs.declared.state.KindState.{KindState}
 use Rattle.ja_kinds.specs.declared.behaviour.Behaviour.{Behaviour}
 use Rattle.ja_kinds.specs.declared.behaviour.Behaviour.TheVariants as does
-use Rattle.ja_ops.specs.declared.member.MemberRef.{MemberRef}
+use Rattle.ja_operations.specs.declared.member.MemberRef.{MemberRef}
 use Rattle.ja_kinds.specs.Effect.{operand_at}
-use Rattle.ja_ops.specs.Names.{member_in}
-use Rattle.ja_ops.specs.Tokens.{library_token}
-use Rattle.ja_ops.specs.Fields as fields
-use Rattle.ja_ops.specs.Fields.{Accesses, IsFieldAt, static_read, member_read, member_write}
-use Rattle.ja_ops.specs.Operation.{OperatesAs, loaded as loaded_op}
+use Rattle.ja_operations.specs.Names.{member_in}
+use Rattle.ja_operations.specs.Tokens.{library_token}
+use Rattle.ja_operations.specs.Fields as fields
+use Rattle.ja_operations.specs.Fields.{Accesses, IsFieldAt, static_read, member_read, member_write}
+use Rattle.ja_operations.specs.Operation.{OperatesAs, loaded as loaded_op}
 use Rattle.ja_methods.specs.Method.{HasContent, IsMethodOf}
 use Rattle.ja_methods.specs.Whole.{IsWholeIn}
 use Rattle.ja_lower.specs.Program.{code_length, heads_of}

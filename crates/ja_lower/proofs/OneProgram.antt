@@ -15,7 +15,7 @@ use Rattle.ja_ir.specs.declared.program.Parts.{Parts}
 use Rattle.ja_class.specs.Meaning.{ClassSpelled}
 use Rattle.ja_lib.specs.Content.{Content}
 use Rattle.ja_lib.specs.declared.row.TableRow.{TableRow}
-use Rattle.ja_supers.specs.Faults.{IsFirst}
+use Rattle.ja_supertypes.specs.Faults.{IsFirst}
 use Rattle.ja_hier.specs.declared.fault.HierFault.{HierFault}
 use Rattle.ja_hier.specs.declared.fault.HierFault.TheVariants.{PlatformClass, Duplicate, Cycle, CrossPackage, Memory}
 use Rattle.ja_hier.specs.Faults.{CrossesPackage, IsFault, IsHierarchy}
@@ -25,9 +25,9 @@ use Rattle.ja_methods.specs.Method.{IsMethodOf}
 use Rattle.ja_methods.specs.Refusal.{IsRefused}
 use Rattle.ja_methods.specs.Sites.{AreSitesOf}
 use Rattle.ja_methods.proofs.InstrSteps.{same-item}
-use Rattle.ja_outline.specs.Classes.{AreClassInfos}
-use Rattle.ja_outline.specs.Entries.{AreEntries}
-use Rattle.ja_outline.specs.Fields.{AreFields}
+use Rattle.ja_heads.specs.Classes.{AreClassInfos}
+use Rattle.ja_heads.specs.Entries.{AreEntries}
+use Rattle.ja_heads.specs.Fields.{AreFields}
 use Rattle.ja_lower.specs.Program.{MethodsUpTo, none_yet, next_method, next_class, SitesUpTo, no_site, next_sites, site_of, heads_of, IsMethodRefused, IsProgramOf, IsRefusedWhole, of_hierarchy, of_method, StandsBefore}
 use Rattle.ja_lower.specs.Refusals.{hier_refusal, method_refusal}
 use Rattle.ja_lower.specs.Steps.{MethodOrRefusal}

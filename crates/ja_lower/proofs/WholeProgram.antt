@@ -34,11 +34,11 @@ use Rattle.ja_methods.specs.declared.site.MethodSite.{MethodSite}
 use Rattle.ja_methods.specs.Method.{IsMethodOf}
 use Rattle.ja_methods.specs.Sites.{AreSitesOf, IsSiteAt}
 use Rattle.ja_methods.specs.Whole.{IsWholeIn, LiesWithin, NamesOneOf}
-use Rattle.ja_ops.specs.Agreement.{IsSound}
-use Rattle.ja_ops.specs.Sites.{sinks_of}
-use Rattle.ja_ops.specs.Targets.{FindsFrom, in_program, in_library}
-use Rattle.ja_outline.specs.Fields.{field_of, fields_from}
-use Rattle.ja_outline.proofs.Whole.{AgreesWith, AreDescribed, whole-answer, whole-entries, whole-fields, whole-infos, whole-supers}
+use Rattle.ja_operations.specs.Agreement.{IsSound}
+use Rattle.ja_operations.specs.Sites.{sinks_of}
+use Rattle.ja_operations.specs.Targets.{FindsFrom, in_program, in_library}
+use Rattle.ja_heads.specs.Fields.{field_of, fields_from}
+use Rattle.ja_heads.proofs.Whole.{AgreesWith, AreDescribed, whole-answer, whole-entries, whole-fields, whole-infos, whole-supers}
 use Rattle.ja_lower.specs.Program.{AreFew, AreMethods, IsProgramOf, MethodsUpTo, none_yet, next_method, next_class, SitesUpTo, no_site, next_sites, code_length, heads_of, site_of}
 use Rattle.ja_lower.proofs.UpTo.{IsAmong, among-up-to, number-up-to}
 

@@ -13,9 +13,9 @@ use Rattle.ja_lib.specs.declared.row.TableRow.{TableRow}
 use Rattle.ja_hier.specs.declared.fault.HierFault.{HierFault}
 use Rattle.ja_hier.specs.Faults.{IsFault, IsHierarchy}
 use Rattle.ja_hier.specs.Members.{IsNumbered}
-use Rattle.ja_outline.specs.Classes.{AreClassInfos}
-use Rattle.ja_outline.specs.Entries.{AreEntries}
-use Rattle.ja_outline.specs.Fields.{AreFields}
+use Rattle.ja_heads.specs.Classes.{AreClassInfos}
+use Rattle.ja_heads.specs.Entries.{AreEntries}
+use Rattle.ja_heads.specs.Fields.{AreFields}
 use Rattle.ja_methods.specs.declared.fault.MethodFault.{MethodFault}
 use Rattle.ja_methods.specs.declared.site.MethodSite.{MethodSite}
 use Rattle.ja_methods.specs.Method.{IsMethodOf}

@@ -13,12 +13,12 @@ use crate::methods::code_of;
 use crate::refusal::hier_fault;
 use ja_base::{Memory, Names, Seq};
 use ja_class::Class;
+use ja_heads::{class_infos, entries, fields};
 use ja_hier::{Hier, hierarchy};
 use ja_ir::{ClassHead, Program};
 use ja_lib::Table;
 use ja_methods::law_whole_method;
-use ja_outline::{class_infos, entries, fields};
-use ja_supers::copy_head;
+use ja_supertypes::copy_head;
 use std::alloc::Global;
 use std::thread::Threads;
 

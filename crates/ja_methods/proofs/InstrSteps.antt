@@ -11,9 +11,9 @@ use Rattle.ja_ir.specs.declared.method.Instr.{Instr}
 use Rattle.ja_lib.specs.declared.row.TableRow.{TableRow}
 use Rattle.ja_kinds.specs.declared.state.KindState.{KindState}
 use Rattle.ja_kinds.specs.Effect.{IsOneOf}
-use Rattle.ja_ops.specs.declared.fault.OpFault.{OpFault}
-use Rattle.ja_ops.specs.declared.fault.OpFault.TheVariants as op_faults
-use Rattle.ja_ops.specs.Refused.{IsRefusedFor, UnlessMemory}
+use Rattle.ja_operations.specs.declared.fault.OpFault.{OpFault}
+use Rattle.ja_operations.specs.declared.fault.OpFault.TheVariants as op_faults
+use Rattle.ja_operations.specs.Refused.{IsRefusedFor, UnlessMemory}
 use Rattle.ja_methods.specs.declared.fault.MethodFault.{MethodFault}
 use Rattle.ja_methods.specs.declared.fault.MethodFault.TheVariants as faults
 use Rattle.ja_methods.specs.Method.{state_before, IsInstrOf, AreInstrsOf}

@@ -18,9 +18,9 @@ use Rattle.ja_lib.specs.declared.row.TableRow.{TableRow}
 use Rattle.ja_kinds.specs.declared.fault.KindFault.{KindFault}
 use Rattle.ja_kinds.specs.declared.state.KindState.{KindState}
 use Rattle.ja_kinds.specs.Answer.{AreKindsOf, IsFaultOf}
-use Rattle.ja_ops.specs.declared.fault.OpFault.{OpFault}
-use Rattle.ja_ops.specs.Operation.{IsOperation}
-use Rattle.ja_ops.specs.Refused.{IsRefusedFor}
+use Rattle.ja_operations.specs.declared.fault.OpFault.{OpFault}
+use Rattle.ja_operations.specs.Operation.{IsOperation}
+use Rattle.ja_operations.specs.Refused.{IsRefusedFor}
 use Rattle.ja_methods.specs.declared.fault.MethodFault.{MethodFault}
 use Rattle.ja_methods.specs.Method.{state_before, is_native, AreInstrsOf, HasContent, IsCodeOf, IsMethodOf}
 use Rattle.ja_methods.specs.Refusal.{kind_refusal, instr_refusal, IsFirstRefusal, IsCodeRefused, IsRefused}

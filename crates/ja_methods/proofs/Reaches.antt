@@ -32,8 +32,8 @@ use Rattle.ja_kinds.specs.Answer.{AreKindsOf, known_of}
 use Rattle.ja_kinds.specs.Reached.{StartsAt, IsKnown, IsAccepted, IsReached, AreReached}
 use Rattle.ja_kinds.proofs.Reached.{does_something, all_reached}
 use Rattle.ja_kinds.proofs.Starts.{code_length}
-use Rattle.ja_ops.specs.Operation.{IsOperation}
-use Rattle.ja_ops.specs.Agreement.{Agrees, OperationsAgree, OperationsEnd, ReturnsAgree}
+use Rattle.ja_operations.specs.Operation.{IsOperation}
+use Rattle.ja_operations.specs.Agreement.{Agrees, OperationsAgree, OperationsEnd, ReturnsAgree}
 use Rattle.ja_methods.specs.Places.{index_of, following, next_by, is_at_or_past}
 use Rattle.ja_methods.specs.Handlers.{handler_of, handlers_of}
 use Rattle.ja_methods.specs.Method.{state_before, height_of, IsInstrOf, AreInstrsOf}
@@ -228,7 +228,7 @@ module _ (heads : List ClassHead) (rows : List TableRow) (class : ClassSpelled) 
     agrees : Agrees instr.op before taken.result
     agrees =
         agree heads rows c class.pool raw instr.op deed.0 deed.1 is.are.frame before taken.result
-        (subst (λ (s : Option KindState). Rattle.ja_ops.specs.Operation.IsOperation heads rows c class.pool raw s instr.op) held.is is-of.operation) deed.2 taken.is
+        (subst (λ (s : Option KindState). Rattle.ja_operations.specs.Operation.IsOperation heads rows c class.pool raw s instr.op) held.is is-of.operation) deed.2 taken.is
 
     after-is : length taken.result.stack ≡ height_after instr.op instr.height
     after-is = sym agrees.height ∙ ap (height_after instr.op) (sym height-is)

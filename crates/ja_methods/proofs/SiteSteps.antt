@@ -9,7 +9,7 @@ use Rattle.ja_ir.specs.declared.head.ClassHead.{ClassHead}
 use Rattle.ja_ir.specs.declared.method.Instr.{Instr}
 use Rattle.ja_ir.specs.declared.op.Op.TheVariants.{Call}
 use Rattle.ja_ir.specs.declared.op.CallOp.{CallOp}
-use Rattle.ja_ops.specs.Sites.{IsSite, IsNoSite, sinks_of}
+use Rattle.ja_operations.specs.Sites.{IsSite, IsNoSite, sinks_of}
 use Rattle.ja_methods.specs.declared.site.MethodSite.{MethodSite}
 use Rattle.ja_methods.specs.Sites.{IsSiteAt, AreSitesOf, IsSilent, Joins}
 
@@ -35,7 +35,7 @@ one-site heads list a b p q e =
     let same : p.instr ≡ q.instr = same-instr list a.index b.index p.instr q.instr e p.found q.found in
     let op : Call p.call ≡ Call q.call = sym p.is_call ∙ ap (λ (i : Instr). i.op) same ∙ q.is_call in
     let call : p.call ≡ q.call = cc in
-    same-site a b e (p.is_site.positions_are ∙ ap sinks_of call ∙ sym q.is_site.positions_are) (p.is_site.target_is ∙ ap Rattle.ja_ops.specs.Sites.target_of call ∙ sym q.is_site.target_is)
+    same-site a b e (p.is_site.positions_are ∙ ap sinks_of call ∙ sym q.is_site.positions_are) (p.is_site.target_is ∙ ap Rattle.ja_operations.specs.Sites.target_of call ∙ sym q.is_site.target_is)
 
 pub sites-more : (heads : List ClassHead) (list : List Instr) (i : ℕ) (instr : Instr) (old new : List MethodSite) → slice_get list i ≡ Some instr → SitesBelow heads list i old → Joins heads i instr old new
     → SitesBelow heads list (i + 1) new
@@ -87,7 +87,7 @@ no-site-silent heads instr call is none other positions target is-other site =
     let e : call ≡ other = cc in
     elim none [
       | inl empty ↦ absurd (omega (arith, site.some, ap length (site.positions_are ∙ ap sinks_of (sym e) ∙ empty)))
-      | inr found ↦ absurd (found (subst (λ (x : CallOp). Rattle.ja_ops.specs.Sites.IsForeign heads x) (sym e) site.foreign))
+      | inr found ↦ absurd (found (subst (λ (x : CallOp). Rattle.ja_operations.specs.Sites.IsForeign heads x) (sym e) site.foreign))
     ]
 
 -- the sink call of an instruction, pushed

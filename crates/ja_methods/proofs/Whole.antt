@@ -30,7 +30,7 @@ use Rattle.ja_class.specs.declared.class.ClassMethod.{ClassMethod}
 use Rattle.ja_class.specs.Meaning.{ClassSpelled, is_static}
 use Rattle.ja_class.specs.ClassFile.{IsSpelled}
 use Rattle.ja_lib.specs.declared.row.TableRow.{TableRow}
-use Rattle.ja_supers.specs.Supertypes.{class_named, names_of}
+use Rattle.ja_supertypes.specs.Supertypes.{class_named, names_of}
 use Rattle.ja_kinds.specs.declared.behaviour.Behaviour.{Behaviour}
 use Rattle.ja_kinds.specs.Behaviour.{behaviour_at}
 use Rattle.ja_kinds.specs.Frame.{filled, parameter_words, words}
@@ -40,7 +40,7 @@ use Rattle.ja_kinds.specs.Reached.{StartsAt, AreReached}
 use Rattle.ja_kinds.proofs.Reached.{all_reached}
 use Rattle.ja_kinds.proofs.Starts.{started, target_starts}
 use Rattle.ja_kinds.proofs.Opcodes.{branches_are}
-use Rattle.ja_ops.specs.Agreement.{OperationsAgree, OperationsEnd, ReturnsAgree, OperationsAreSound, IsSound}
+use Rattle.ja_operations.specs.Agreement.{OperationsAgree, OperationsEnd, ReturnsAgree, OperationsAreSound, IsSound}
 use Rattle.ja_methods.specs.Places.{index_of, is_at_or_past, following, next_by}
 use Rattle.ja_methods.specs.Handlers.{caught, catch_of, handler_of}
 use Rattle.ja_methods.specs.Method.{is_native, IsCodeOf, HasContent, HasInstrs, IsMethodOf}

@@ -14,7 +14,7 @@ use Rattle.ja_class.specs.Meaning.{ClassSpelled}
 use Rattle.ja_lib.specs.declared.row.TableRow.{TableRow}
 use Rattle.ja_kinds.specs.declared.state.KindState.{KindState}
 use Rattle.ja_kinds.specs.Answer.{AreKindsOf}
-use Rattle.ja_ops.specs.Operation.{IsOperation}
+use Rattle.ja_operations.specs.Operation.{IsOperation}
 use Rattle.ja_methods.specs.Places.{next_of}
 use Rattle.ja_methods.specs.Handlers.{handlers_of}
 

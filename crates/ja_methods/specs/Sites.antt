@@ -4,7 +4,7 @@ use Rattle.ja_ir.specs.declared.head.ClassHead.{ClassHead}
 use Rattle.ja_ir.specs.declared.method.Instr.{Instr}
 use Rattle.ja_ir.specs.declared.op.CallOp.{CallOp}
 use Rattle.ja_ir.specs.declared.op.Op.TheVariants.{Call}
-use Rattle.ja_ops.specs.Sites.{IsSite}
+use Rattle.ja_operations.specs.Sites.{IsSite}
 use Rattle.ja_methods.specs.declared.site.MethodSite.{MethodSite}
 
 -- the instruction of the site's index is a call, and a sink call of these positions and this target

@@ -11,7 +11,7 @@ use Rattle.ja_ir.specs.declared.op.Op.TheVariants.{Call}
 use Rattle.ja_ir.specs.Operations.{arguments}
 use Rattle.ja_ir.specs.Lookup.{is_abstract, HasCode}
 use Rattle.ja_ir.specs.Whole.{SpellsMethod, ReturnsAs, Starts, Runs}
-use Rattle.ja_ops.specs.Agreement.{IsSound}
+use Rattle.ja_operations.specs.Agreement.{IsSound}
 use Rattle.ja_methods.specs.declared.site.MethodSite.{MethodSite}
 
 -- the class that a handler names is one of these

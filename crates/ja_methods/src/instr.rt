@@ -2,7 +2,7 @@ ghost use Rattle.std.specs.Prelude.{◌≡◌, ◌⊎◌, ◌<◌, ◌≤◌, �
 ghost use Rattle.ja_kinds.specs.declared.state.KindState.{KindState};
 ghost use Rattle.std.specs.List.Sorted.{IsNonDecreasingBy};
 ghost use Rattle.ja_code.specs.declared.instr.RawInstr.{RawInstr};
-ghost use Rattle.ja_ops.specs.Profile.{IsProfiled};
+ghost use Rattle.ja_operations.specs.Profile.{IsProfiled};
 ghost use Rattle.ja_methods.specs.declared.fault.MethodFault.TheVariants.{Memory};
 ghost use Rattle.ja_methods.specs.Method.{IsInstrOf, AreInstrsOf, height_of};
 ghost use Rattle.ja_methods.specs.Refusal.{IsUnrefused, IsRefusalOf, IsFirstRefusal};
@@ -15,7 +15,7 @@ use ja_hier::Hier;
 use ja_ir::{Instr, Instrs};
 use ja_kinds::{KindState, Kinds};
 use ja_lib::Table;
-use ja_ops::{law_one_operation, operation_of};
+use ja_operations::{law_one_operation, operation_of};
 use ja_pool::Pool;
 use std::alloc::Global;
 

@@ -13,7 +13,7 @@ ghost use Rattle.ja_methods.specs.Sites.{AreSitesOf};
 ghost use Rattle.ja_methods.specs.Whole.{IsWholeIn, NamesCall};
 
 use ja_kinds::law_one_answer;
-use ja_ops::{law_one_operation, law_operations_agree};
+use ja_operations::{law_one_operation, law_operations_agree};
 
 /// The method of a class of the profile is whole, as far as other methods have no part in it.
 pub fn law_whole_method()

@@ -19,7 +19,7 @@ use ja_hier::Hier;
 use ja_ir::{Handlers, HeadMethod, Instrs, Method};
 use ja_kinds::kinds;
 use ja_lib::Table;
-use ja_ops::law_each_is_profiled;
+use ja_operations::law_each_is_profiled;
 use std::alloc::Global;
 
 /// ACC_NATIVE (JVM specification table 4.6-A).

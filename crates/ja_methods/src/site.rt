@@ -4,7 +4,7 @@ ghost use Rattle.ja_methods.specs.Sites.{AreSitesOf, Joins};
 use ja_base::{Memory, Name, Numbers, Seq};
 use ja_hier::Hier;
 use ja_ir::{Instr, Op};
-use ja_ops::site_of;
+use ja_operations::site_of;
 use std::alloc::Global;
 
 /// A sink call of a method.

@@ -1,9 +1,9 @@
 use Rattle.std.proofs.Common.{List, subst}
 use Rattle.ja_ir.specs.declared.head.ClassHead.{ClassHead}
 use Rattle.ja_ir.specs.declared.program.Parts.{Parts}
-use Rattle.ja_outline.specs.Classes.{AreClassInfos}
-use Rattle.ja_outline.specs.Entries.{AreEntries}
-use Rattle.ja_outline.specs.Fields.{AreFields}
+use Rattle.ja_heads.specs.Classes.{AreClassInfos}
+use Rattle.ja_heads.specs.Entries.{AreEntries}
+use Rattle.ja_heads.specs.Fields.{AreFields}
 use Rattle.ja_lower.specs.Program.{IsProgramOf}
 use Rattle.ja_lower.proofs.Described.{described}
 use Rattle.ja_lower.proofs.Named.{whole-parts}
