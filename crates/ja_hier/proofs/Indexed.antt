@@ -10,8 +10,8 @@ use Rattle.std.proofs.lemmas.Slice.Eq.{bytes_eq-Decides}
 use Rattle.ja_ir.specs.declared.head.ClassHead.{ClassHead}
 use Rattle.ja_ir.specs.declared.head.HeadField.{HeadField}
 use Rattle.ja_ir.specs.declared.head.HeadMethod.{HeadMethod}
-use Rattle.ja_index.specs.Numbers.{numbers_at, number_if}
-use Rattle.ja_index.specs.declared.numbers.NumbersByName.{NumbersByName}
+use Rattle.ja_base.specs.Index.{numbers_at, number_if}
+use Rattle.ja_base.specs.declared.index.NumbersByName.{NumbersByName}
 use Rattle.ja_hier.specs.declared.skip.Skip.{Skip}
 use Rattle.ja_hier.specs.declared.starts.Member.{Member}
 use Rattle.ja_hier.specs.declared.starts.Member.TheVariants.{Field, Method}

@@ -4,8 +4,8 @@ use Rattle.std.specs.Prelude.{Option, Some, None, Contains, slice_get}
 use Rattle.std.proofs.lemmas.Option.{get_or_from_slice_get}
 use Rattle.std.proofs.lemmas.List.Elements.{Contains-get_or}
 use Rattle.ja_ir.specs.declared.head.ClassHead.{ClassHead}
-use Rattle.ja_index.specs.Numbers.{numbers_at}
-use Rattle.ja_index.specs.declared.numbers.NumbersByName.{NumbersByName}
+use Rattle.ja_base.specs.Index.{numbers_at}
+use Rattle.ja_base.specs.declared.index.NumbersByName.{NumbersByName}
 use Rattle.ja_hier.specs.declared.starts.Member.TheVariants.{Field}
 use Rattle.ja_hier.specs.Index.{AreForks, Covers, IsBelow, IsIndexOf, IsNowhereOn, IsStraight, stays, upwards, Meets}
 use Rattle.ja_hier.specs.LookUps.{field_in, field_number, IsDeclaredAbove, FieldSearch, here, further}

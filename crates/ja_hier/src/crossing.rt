@@ -10,8 +10,7 @@ use crate::above::fewer;
 use crate::flags::{is_package_private, is_virtual};
 use crate::package::same_package;
 use crate::tables::Tables;
-use ja_base::Name;
-use ja_index::NumbersByName;
+use ja_base::{Name, NumbersByName};
 use ja_ir::{ClassHead, HeadMethod, HeadMethods};
 
 /// Refuses a method that redeclares a package-private method of a superclass in another package.

@@ -1,5 +1,5 @@
 ghost use Rattle.std.specs.Prelude.{◌≡◌, ℕ, ◌<◌, ◌↔◌, false, Some, None, length, slice_get, IsTrue, IfSome, IfNone};
-ghost use Rattle.ja_index.specs.Numbers.{numbers_at};
+ghost use Rattle.ja_base.specs.Index.{numbers_at};
 ghost use Rattle.ja_hier.specs.declared.skip.Skip.TheVariants.{NoDefault};
 ghost use Rattle.ja_hier.specs.Index.{first_place, is_method, Covers, Inherits, IsLowest, IsIndexed, IsSomeCandidate, IsSomePlace, IsOverridden, Overrides, IsSomeLeft, IsOtherLeft, IsLeftNumber};
 ghost use Rattle.ja_supertypes.specs.Supertypes.{IsSuperclass};

@@ -1,5 +1,4 @@
 pub mod Marks
 pub mod Cuts
-pub mod Types
 pub mod Sampled
 pub mod Entered

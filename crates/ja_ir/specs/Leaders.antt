@@ -3,7 +3,7 @@ use Rattle.std.specs.Prelude.{ℕ, ◌+◌, ◌-◌, Bool, true, false, List, []
 use Rattle.ja_ir.specs.declared.block.Block.{Block}
 use Rattle.ja_ir.specs.declared.method.Instr.{Instr}
 use Rattle.ja_ir.specs.declared.method.Handler.{Handler}
-use Rattle.ja_ir.specs.Blocks.{is_branch, ends_block}
+use Rattle.ja_ir.specs.Blocks.{is_branch, ends_block, may_initialize}
 
 -- the flags after those of these places were set
 abbrev pub with_places : List ℕ → List Bool → List Bool
@@ -18,10 +18,14 @@ with_place place flags = if nat_lt place (length flags) then slice_set flags pla
 abbrev pub with_targets : Instr → List Bool → List Bool
 with_targets instr flags = if is_branch instr.op then with_places instr.next flags else flags
 
+-- the flags after that of an instruction was set, where it may initialise a class
+abbrev pub with_initializing : ℕ → Instr → List Bool → List Bool
+with_initializing i instr flags = if may_initialize instr.op then with_place i flags else flags
+
 -- the flags after those were set that instruction i asks for
 abbrev pub with_instr : ℕ → Instr → List Bool → List Bool
 with_instr i instr flags =
-    if ends_block instr.op then with_place (i + 1) (with_targets instr flags) else with_targets instr flags
+    if ends_block instr.op then with_place (i + 1) (with_initializing i instr (with_targets instr flags)) else with_initializing i instr (with_targets instr flags)
 
 -- the flags after those were set that the instructions from index i on ask for
 abbrev pub with_code : ℕ → List Instr → List Bool → List Bool

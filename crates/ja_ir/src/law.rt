@@ -1,19 +1,11 @@
-ghost use Rattle.std.specs.Prelude.{codes, true, ◌≡◌, ◌↔◌, List, Option, Some, ℕ};
-ghost use Rattle.ja_base.specs.declared.java_type.JavaType.{JavaType};
-ghost use Rattle.ja_base.specs.Descriptor.{IsMethod};
+ghost use Rattle.std.specs.Prelude.{codes, true, ◌≡◌, ◌↔◌, Some, ℕ};
 ghost use Rattle.ja_ir.specs.declared.method.Method.{Method};
 ghost use Rattle.ja_ir.specs.declared.program.Parts.{Parts};
 ghost use Rattle.ja_ir.specs.Lookup.{is_static};
 ghost use Rattle.ja_ir.specs.Entries.{IsConstructorOf, IsPlain, constructor_of, is_initializer};
-ghost use Rattle.ja_ir.specs.Descriptors.{params_of};
 ghost use Rattle.ja_ir.specs.Examples.{LookUpsAnswer, TokensAreMade, TokensFit};
 ghost use Rattle.ja_ir.specs.Sample.{sample};
 ghost use Rattle.ja_ir.specs.Whole.{IsWhole};
-
-/// The types that are read from a method descriptor are those of its grammar (JVM specification 4.3.3).
-pub fn law_params_are_spelled()
-    ensures { (desc : List ℕ) (params : List JavaType) (result : Option JavaType) → IsMethod desc params result → params_of desc ≡ params }
-{}
 
 /// In a small program, the tokens that fit types, and those that are made for types, and the answers of
 /// look-ups are what they should be.

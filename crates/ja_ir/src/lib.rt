@@ -6,6 +6,7 @@ mod block;
 mod class;
 mod entry;
 mod head;
+mod initializing;
 mod law;
 mod method;
 mod op;
@@ -19,9 +20,7 @@ pub use class::{
 };
 pub use entry::{Entries, Entry, Site, Sites};
 pub use head::{ClassHead, HeadField, HeadFields, HeadMethod, HeadMethods};
-pub use law::{
-    law_environment_methods, law_params_are_spelled, law_sample_is_whole, law_small_program,
-};
+pub use law::{law_environment_methods, law_sample_is_whole, law_small_program};
 pub use method::{Catch, Handler, Handlers, Instr, Instrs, Method, Methods};
 pub use op::{CallKind, CallOp, Op, Token};
 pub use program::{Parts, Program};

@@ -4,7 +4,7 @@ ghost use Rattle.ja_ir.specs.Blocks.{StaysInside};
 use crate::{
     CallKind, CallOp, Instr, Instrs, LibRow, Method, Op, RowEffect, RowFlow, RowResult, blocks_of,
 };
-use ja_base::{ClassId, Kind, Memory, Name, Seq};
+use ja_base::{ClassId, Desc, Kind, Memory, Name, Seq};
 use std::alloc::Global;
 use std::test::Fail;
 
@@ -22,6 +22,8 @@ fn call(alloc: Global, name: &[u8]) -> Result<Op, Memory> {
             effect: RowEffect::Quiet,
             result: RowResult::Fresh,
             sinks: Seq::new(alloc),
+            marks: Seq::new(alloc),
+            category: 0,
         },
         found: None,
     }))
@@ -66,6 +68,11 @@ fn recursive(alloc: Global) -> Result<Method, Memory>
         class: ClassId(0),
         name: Name::of(alloc, b"f")?,
         desc: Name::of(alloc, b"(Ljava/lang/String;I)Ljava/lang/String;")?,
+        types: Desc {
+            params: Seq::new(alloc),
+            result: None,
+            words: 0,
+        },
         flags: 9,
         locals: 2,
         stack: 2,
@@ -79,13 +86,13 @@ fn blocks_of_a_recursive_method(rt: HostRuntime) -> Result<(), Fail> {
     let alloc = rt.alloc();
     let method = recursive(alloc)?;
     let blocks = blocks_of(alloc, &method)?;
-    assert_eq!(rt; blocks.len(), 5);
+    assert_eq!(rt; blocks.len(), 6);
     let mut starts: Vec<u32> = Vec::new(alloc);
     for block in blocks.as_slice() {
         let index = block.first as u64;
         assert!(rt; index < method.code.len());
         starts.push(method.code.at(index).pc)?;
     }
-    assert_eq!(rt; starts.as_slice(), [0, 4, 6, 9, 13].as_slice());
+    assert_eq!(rt; starts.as_slice(), [0, 4, 6, 9, 10, 13].as_slice());
     Ok(())
 }

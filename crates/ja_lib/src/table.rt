@@ -4,8 +4,7 @@ ghost use Rattle.ja_lib.specs.Index.{first_at};
 
 use crate::index::places_by_class;
 use crate::{EntryRows, TableRow, TableRows};
-use ja_base::{Memory, Name};
-use ja_index::NumbersByName;
+use ja_base::{Memory, Name, NumbersByName};
 use ja_ir::LibRow;
 use std::alloc::Global;
 use std::marker::Model;

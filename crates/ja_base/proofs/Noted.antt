@@ -4,7 +4,7 @@ use Rattle.std.specs.Cmp.Lexicographic.{slice_cmp}
 use Rattle.std.proofs.lemmas.Bool.{cases_Bool}
 use Rattle.std.proofs.lemmas.Slice.Eq.{bytes_eq-Decides}
 use Rattle.std.proofs.lemmas.Map.Text.{is_eq-slice_cmp}
-use Rattle.ja_index.specs.Numbers.{number_if}
+use Rattle.ja_base.specs.Index.{number_if}
 
 -- a name is noted: its numbers are taken out, and put back with one more
 pub noted-one : (before without after : List ℕ → Option (List ℕ)) (noted name numbers : List ℕ) (number : ℕ)

@@ -1,7 +1,7 @@
 ghost use Rattle.std.specs.Prelude.{◌≡◌, ◌++◌, [], List, ℕ, OnOk};
-ghost use Rattle.ja_index.specs.Numbers.{numbers_at, number_if};
+ghost use Rattle.ja_base.specs.Index.{numbers_at, number_if};
 
-use ja_base::{Memory, Name, Numbers, Seq};
+use crate::{Memory, Name, Numbers, Seq};
 use std::alloc::Global;
 use std::collections::BTreeMap;
 

@@ -3,7 +3,7 @@ use Rattle.std.specs.Prelude.{ℕ, List, [], ◌∷◌, bytes_eq, unwrap_or, if�
 use Rattle.std.specs.Ordering.{nat_cmp}
 use Rattle.std.specs.Cmp.Lexicographic.{slice_cmp}
 use Rattle.std.specs.BTreeMap.{get}
-use Rattle.ja_index.specs.declared.numbers.NumbersByName.{NumbersByName}
+use Rattle.ja_base.specs.declared.index.NumbersByName.{NumbersByName}
 
 -- the numbers of a name, in the order in which they were noted
 abbrev pub numbers_at : NumbersByName → (name : List ℕ) → List ℕ

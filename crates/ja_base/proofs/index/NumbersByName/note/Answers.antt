@@ -1,8 +1,8 @@
 use Rattle.std.proofs.Common.{◌≡◌, ◌∷◌, [], ◌++◌, unwrap_or, nat_cmp}
 use Rattle.std.specs.Cmp.Lexicographic.{slice_cmp}
 use Rattle.std.specs.BTreeMap.{get}
-use Rattle.ja_index.proofs.Noted.{noted-one}
-use Rattle.ja_index.proofs.numbers.NumbersByName.note.Goals as goal
+use Rattle.ja_base.proofs.Noted.{noted-one}
+use Rattle.ja_base.proofs.index.NumbersByName.note.Goals as goal
 
 pub returns-in-Ok : goal.returns-in-Ok
 returns-in-Ok c = λ name.
