@@ -1,5 +1,5 @@
 -- Categories of marks, and the program that is about one of them.
-use Rattle.std.specs.Prelude.{ℕ, zero, suc, Bool, true, false, List, [], ◌∷◌, length, map, if◌then◌else◌}
+use Rattle.std.specs.Prelude.{ℕ, suc, Bool, true, false, List, [], ◌∷◌, length, map, slice_get, unwrap_or, if◌then◌else◌}
 use Rattle.ja_ir.specs.declared.program.Parts.{Parts}
 use Rattle.ja_ir.specs.declared.entry.Entry.{Entry}
 use Rattle.ja_ir.specs.declared.method.Method.{Method}
@@ -22,9 +22,7 @@ category_count p = count_of_names p.categories
 
 -- category c is among those that are flagged
 abbrev pub has_category : (flags : List Bool) → (c : ℕ) → Bool
-has_category [] c = false
-has_category (flag ∷ flags) zero = flag
-has_category (flag ∷ flags) (suc c) = has_category flags c
+has_category flags c = unwrap_or (slice_get flags c) false
 
 -- a flow, as a category sees it that it does or does not mark: one that is always there, but without marks of the category, comes from the
 -- arguments alone

@@ -4,6 +4,7 @@
 
 mod block;
 mod class;
+mod copy;
 mod entry;
 mod head;
 mod initializing;
@@ -11,6 +12,7 @@ mod law;
 mod method;
 mod op;
 mod program;
+mod project;
 mod row;
 
 pub use block::{Block, Blocks, blocks_of};
