@@ -19,21 +19,27 @@ VERDICTS = [
 
 
 def edited(crate, edit):
-    """The files that an edit changes, with the text that each has then, as rt makes them."""
+    """The texts of the files that an edit changes, by their paths, as rt makes them, or why it cannot be applied."""
     texts, path, old = {}, "", None
-    with open(f"crates/{crate}/must-fail/{edit}", encoding="utf-8") as it:
-        for line in it.read().split("\n"):
-            if line.startswith("file: "):
-                path = line[len("file: "):].strip()
-            elif line.startswith("old: "):
-                old = line[len("old: "):]
-            elif line.startswith("new:") and old is not None:
-                if path not in texts:
-                    with open(f"crates/{crate}/{path}", encoding="utf-8") as file:
-                        texts[path] = file.read()
-                texts[path] = texts[path].replace(old, line[len("new:"):].removeprefix(" "))
-                old = None
-    return texts
+    with open(edit, encoding="utf-8") as it:
+        lines = it.read().split("\n")
+    for line in lines:
+        if line.startswith("file: "):
+            path = line[len("file: "):].strip()
+        elif line.startswith("old: "):
+            old = line[len("old: "):]
+        elif line.startswith("new:") and path and old:
+            if path not in texts:
+                if not os.path.isfile(f"crates/{crate}/{path}"):
+                    return {}, f"there is no file {path}"
+                with open(f"crates/{crate}/{path}", encoding="utf-8") as file:
+                    texts[path] = file.read()
+            found = texts[path].count(old)
+            if found != 1:
+                return {}, f"an old text stands in {path} {found} times, and not once"
+            texts[path] = texts[path].replace(old, line[len("new:"):].removeprefix(" "))
+            old = None
+    return texts, None if texts else "it changes nothing"
 
 
 def edit_in(folder, edits):
@@ -49,13 +55,9 @@ def edit_in(folder, edits):
 
 def tried(crate, flags):
     """Has rt try the edits of a crate: what it said, its processor seconds by edit, and its status."""
-    names = sorted(os.path.basename(it) for it in glob.glob(f"crates/{crate}/must-fail/*.edit"))
-    edits = {}
-    for name in names:
-        try:
-            edits[name] = edited(crate, name)
-        except OSError:
-            edits[name] = {}
+    paths = sorted(glob.glob(f"crates/{crate}/must-fail/*.edit"))
+    names = [os.path.basename(it) for it in paths]
+    edits = {name: edited(crate, path)[0] for name, path in zip(names, paths)}
     runs, edit_of = Runs(), {}
     with open(f"{crate}.log", "w+", errors="replace") as log:
         rt = subprocess.Popen(["rt", "must-fail", crate, *flags], stdin=subprocess.DEVNULL, stdout=log, stderr=subprocess.STDOUT)
@@ -74,7 +76,25 @@ def tried(crate, flags):
     return names, said, seconds, rt.returncode
 
 
+def look():
+    """Says which edits of the checkout cannot be applied, or have a name of another one of their crate, and tries none."""
+    failed, seen = False, set()
+    for path in sorted(glob.glob("crates/*/must-fail/*.edit") + glob.glob("crates/*/wrong-bodies/*")):
+        crate, name = path.split("/")[1], os.path.basename(path)
+        why = edited(crate, path)[1] if path.endswith(".edit") else "its name does not end in .edit"
+        why = why or ("its crate has another edit of that name" if (crate, name) in seen else None)
+        seen.add((crate, name))
+        if why:
+            print(f"{path}: {why}")
+            failed = True
+    in_gate = len(glob.glob("crates/*/must-fail/*.edit"))
+    print(f"edits: {in_gate} in the gate, {len(seen) - in_gate} beside it")
+    return int(failed)
+
+
 def main(words):
+    if words == ["--look"]:
+        sys.exit(look())
     flags = [it for it in words if it.startswith("-")]
     with open("crates.txt", encoding="utf-8") as it:
         crates = re.findall(r"(?m)^(\w+)[^:\n]*:", it.read())
