@@ -36,8 +36,8 @@ class Runs:
                         continue
                     self.seen[key] = Run(words, os.readlink(f"/proc/{pid}/cwd"))
                     new.append(self.seen[key])
-                # with those of the processes that it made and that have ended
-                self.seen[key].seconds = sum(map(int, fields[11:15])) / TICKS
+                # (its own alone: the copies that it makes of itself are runs too)
+                self.seen[key].seconds = (int(fields[11]) + int(fields[12])) / TICKS
             except (OSError, IndexError):
                 pass
         return new
