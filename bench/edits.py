@@ -92,35 +92,40 @@ def look():
     return int(failed)
 
 
+def tell(crate, flags):
+    """Has rt try the edits of a crate, prints a line for each, and returns what they came to."""
+    names, said, seconds, status = tried(crate, flags)
+    rests = dict(re.findall(rf"(?m)^rt: must-fail {crate}/(\S+\.edit): (.*)$", said))
+    verdicts = []
+    for name in names:
+        rest = rests.get(name, "")
+        verdict = next((to for begin, to in VERDICTS if rest.startswith(begin)), "not tried")
+        took = f"{seconds[name]:7.1f} s" if name in seconds else "kept".rjust(9) if " by an earlier run" in said else " " * 9
+        # (where it is not refused, rt's own words say more)
+        print(f"{took} {crate}/{name.removesuffix('.edit')}: {verdict if verdict.startswith('refused') else rest or verdict}", flush=True)
+        verdicts.append(verdict)
+    if status and not rests:
+        print(f"{crate}: rt stopped, and tried none:\n" + "\n".join(said.split("\n")[-8:]), flush=True)
+    return verdicts
+
+
 def main(words):
     if words == ["--look"]:
-        sys.exit(look())
-    flags = [it for it in words if it.startswith("-")]
+        return look()
+    flags, wanted = [it for it in words if it.startswith("-")], [it for it in words if not it.startswith("-")]
     with open("crates.txt", encoding="utf-8") as it:
         crates = re.findall(r"(?m)^(\w+)[^:\n]*:", it.read())
-    wanted = [it for it in words if not it.startswith("-")]
     lacking = [it for it in wanted if it not in crates]
     if lacking or set(flags) - {"--anew"}:
-        sys.exit(f"usage: bench/edits.sh [--anew] [CRATE..]: no crate is named {lacking[0]}" if lacking else "usage: bench/edits.sh [--anew] [CRATE..]")
-    counts = {}
-    for crate in wanted or crates:
-        if not glob.glob(f"crates/{crate}/must-fail/*.edit"):
-            continue
-        names, said, seconds, status = tried(crate, flags)
-        lines = re.findall(rf"(?m)^rt: must-fail {crate}/(\S+\.edit): (.*)$", said)
-        told = {edit: next((to for begin, to in VERDICTS if rest.startswith(begin)), "not tried") for edit, rest in lines}
-        for edit in names:
-            verdict = told.get(edit, "not tried")
-            took = f"{seconds[edit]:7.1f} s" if edit in seconds else "kept".rjust(9) if " by an earlier run" in said else " " * 9
-            print(f"{took} {crate}/{edit.removesuffix('.edit')}: {verdict}", flush=True)
-            counts[verdict] = counts.get(verdict, 0) + 1
-        if status and not lines:
-            print(f"{crate}: rt stopped, and tried none:\n" + "\n".join(said.split("\n")[-8:]), flush=True)
-    refused = sum(number for verdict, number in counts.items() if verdict.startswith("refused"))
-    others = [f"{number} {verdict}" for verdict, number in counts.items() if verdict != "refused"]
-    print(f"{refused} of {sum(counts.values())} edits refused" + (f" ({', '.join(others)})" if others else ""))
-    sys.exit(0 if refused == sum(counts.values()) else 1)
+        print("usage: bench/edits.sh [--anew] [CRATE..]" + (f": no crate is named {lacking[0]}" if lacking else ""), file=sys.stderr)
+        return 2
+    with_edits = [it for it in wanted or crates if glob.glob(f"crates/{it}/must-fail/*.edit")]
+    verdicts = [verdict for crate in with_edits for verdict in tell(crate, flags)]
+    refused = sum(it.startswith("refused") for it in verdicts)
+    others = [f"{verdicts.count(it)} {it}" for it in sorted({*verdicts}) if it != "refused"]
+    print(f"{refused} of {len(verdicts)} edits refused" + (f" ({'; '.join(others)})" if others else ""))
+    return 0 if refused == len(verdicts) else 1
 
 
 if __name__ == "__main__":
-    main(sys.argv[1:])
+    sys.exit(main(sys.argv[1:]))

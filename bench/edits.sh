@@ -9,10 +9,8 @@ copy=$work/repository
 mkdir "$copy"
 cd "$top"
 git ls-files -z --cached --others --exclude-standard | while IFS= read -r -d '' file; do
-    [ -e "$file" ] && printf '%s\0' "$file"
+    if [ -e "$file" ]; then printf '%s\0' "$file"; fi
 done | tar -c --null -T - | tar -x -C "$copy"
-# (the top of a repository, for rt)
-mkdir "$copy/.git"
 for folder in "$copy"/crates/*/wrong-bodies; do
     [ -d "$folder" ] || continue
     beside=$(dirname "$folder")/must-fail
