@@ -1,12 +1,12 @@
+//! Blocks of a method.
 ghost use Rattle.std.specs.Prelude.{◌≡◌, ◌+◌, ◌<◌, ◌≤◌, All, IfOk, OnOk, length};
 ghost use Rattle.ja_ir.specs.Blocks.{StaysInside};
 
-use crate::{
+use ja_ir::{
     CallKind, CallOp, Instr, Instrs, LibRow, Method, Op, RowEffect, RowFlow, RowResult, blocks_of,
 };
 use ja_base::{ClassId, Desc, Kind, Memory, Name, Seq};
 use std::alloc::Global;
-use std::test::Fail;
 
 /// A static call of a method of two parameters.
 fn call(alloc: Global, name: &[u8]) -> Result<Op, Memory> {
@@ -81,18 +81,15 @@ fn recursive(alloc: Global) -> Result<Method, Memory>
     })
 }
 
-#[test]
-fn blocks_of_a_recursive_method(rt: HostRuntime) -> Result<(), Fail> {
-    let alloc = rt.alloc();
+/// Adds where the blocks of the method begin.
+pub fn add_blocks(out: &mut String, alloc: Global) -> Result<(), Memory> {
     let method = recursive(alloc)?;
     let blocks = blocks_of(alloc, &method)?;
-    assert_eq!(rt; blocks.len(), 6);
-    let mut starts: Vec<u32> = Vec::new(alloc);
+    write!(out, "blocks {} at", blocks.len())?;
     for block in blocks.as_slice() {
-        let index = block.first as u64;
-        assert!(rt; index < method.code.len());
-        starts.push(method.code.at(index).pc)?;
+        if let Some(instr) = method.code.as_slice().get(block.first as usize) {
+            write!(out, " {}", instr.pc)?;
+        }
     }
-    assert_eq!(rt; starts.as_slice(), [0, 4, 6, 9, 10, 13].as_slice());
-    Ok(())
+    Ok(writeln!(out)?)
 }

@@ -1,10 +1,10 @@
 //! The whole program of the definitions, made in memory.
-ghost use Rattle.std.specs.Prelude.{◌≡◌, [], ◌∷◌, None, codes, IfOk};
+ghost use Rattle.std.specs.Prelude.{◌≡◌, [], ◌∷◌, None, true, codes, IfOk};
 ghost use Rattle.ja_ir.specs.declared.op.Op.TheVariants.{Return};
 ghost use Rattle.ja_ir.specs.Examples.{method, at};
-ghost use Rattle.ja_ir.specs.Sample.{sink, main, selected, sample};
+ghost use Rattle.ja_ir.specs.Sample.{sink, main, without_code, initializer, selected, sample};
 
-use ja_base::{ClassId, JavaType, Kind, Memory, MethodId, Name, Seq};
+use ja_base::{ClassId, Desc, Flags, JavaType, Kind, Memory, MethodId, Name, Seq};
 use ja_ir::{
     CallKind, CallOp, Catch, ClassInfo, ClassInfos, Entries, Entry, Field, Fields, Handler,
     Handlers, Instr, Instrs, LibRow, Method, MethodAt, Methods, Op, Program, RowEffect, RowFlow,
@@ -26,6 +26,15 @@ fn instr(alloc: Global, pc: u32, op: Op, next: &[u64], height: u32) -> Result<In
     })
 }
 
+/// Marks of the one category.
+fn marks(alloc: Global) -> Result<Flags, Memory>
+    ensures { IfOk result (λ marks. marks ≡ true ∷ []) }
+{
+    let mut marks = Seq::new(alloc);
+    marks.push(true)?;
+    Ok(marks)
+}
+
 /// A call of a sink of one number.
 fn sink(alloc: Global) -> Result<CallOp, Memory>
     ensures { IfOk result (λ call. call ≡ sink) }
@@ -37,6 +46,7 @@ fn sink(alloc: Global) -> Result<CallOp, Memory>
     })?;
     let mut sinks = Seq::new(alloc);
     sinks.push(0)?;
+    let marks = marks(alloc)?;
     Ok(CallOp {
         kind: CallKind::Static,
         class: Name::of(alloc, b"demo/Taint")?,
@@ -49,6 +59,8 @@ fn sink(alloc: Global) -> Result<CallOp, Memory>
             effect: RowEffect::Quiet,
             result: RowResult::Fresh,
             sinks,
+            marks,
+            category: 0,
         },
         found: Some(MethodAt::Library),
     })
@@ -64,12 +76,17 @@ fn method(
     code: Instrs,
     handlers: Handlers,
 ) -> Result<Method, Memory>
-    ensures { IfOk result (λ m. m ≡ method 0 name.now (codes "()V") flags locals stack code handlers) }
+    ensures { IfOk result (λ m. m ≡ method 0 name.now flags locals stack code handlers) }
 {
     Ok(Method {
         class: ClassId(0),
         name: Name::of(alloc, name)?,
         desc: Name::of(alloc, b"()V")?,
+        types: Desc {
+            params: Seq::new(alloc),
+            result: None,
+            words: 0,
+        },
         flags,
         locals,
         stack,
@@ -99,11 +116,28 @@ fn main(alloc: Global) -> Result<Method, Memory>
 
 /// A method with a receiver that returns at once.
 fn returns(alloc: Global, name: &[u8]) -> Result<Method, Memory>
-    ensures { IfOk result (λ m. m ≡ method 0 name.now (codes "()V") 1 1 0 (at 0 (Return None) [] 0 ∷ []) []) }
+    ensures { IfOk result (λ m. m ≡ method 0 name.now 1 1 0 (at 0 (Return None) [] 0 ∷ []) []) }
 {
     let mut code = Seq::new(alloc);
     code.push(instr(alloc, 0, Op::Return(None), &[], 0)?)?;
     method(alloc, name, 0x0001, 1, 0, code, Seq::new(alloc))
+}
+
+/// The method without code.
+fn without_code(alloc: Global) -> Result<Method, Memory>
+    ensures { IfOk result (λ m. m ≡ without_code) }
+{
+    let (code, handlers) = (Seq::new(alloc), Seq::new(alloc));
+    method(alloc, b"n", 0x0401, 0, 0, code, handlers)
+}
+
+/// The class initialiser, which returns at once.
+fn initializer(alloc: Global) -> Result<Method, Memory>
+    ensures { IfOk result (λ m. m ≡ initializer) }
+{
+    let mut code = Seq::new(alloc);
+    code.push(instr(alloc, 0, Op::Return(None), &[], 0)?)?;
+    method(alloc, b"<clinit>", 0x0008, 0, 0, code, Seq::new(alloc))
 }
 
 fn methods(alloc: Global) -> Result<Methods, Memory>
@@ -113,8 +147,8 @@ fn methods(alloc: Global) -> Result<Methods, Memory>
     list.push(main(alloc)?)?;
     list.push(returns(alloc, b"<init>")?)?;
     list.push(returns(alloc, b"m")?)?;
-    let (code, handlers) = (Seq::new(alloc), Seq::new(alloc));
-    list.push(method(alloc, b"n", 0x0401, 0, 0, code, handlers)?)?;
+    list.push(without_code(alloc)?)?;
+    list.push(initializer(alloc)?)?;
     Ok(list)
 }
 
@@ -143,6 +177,8 @@ fn classes(alloc: Global) -> Result<ClassInfos, Memory>
 {
     let mut supers = Seq::new(alloc);
     supers.push(ClassId(0))?;
+    let mut inits = Seq::new(alloc);
+    inits.push(MethodId(4))?;
     let mut list = Seq::new(alloc);
     list.push(ClassInfo {
         name: Name::of(alloc, b"A")?,
@@ -151,6 +187,7 @@ fn classes(alloc: Global) -> Result<ClassInfos, Memory>
         absorbing: false,
         supers,
         selections: selections(alloc)?,
+        inits,
     })?;
     Ok(list)
 }
@@ -169,20 +206,24 @@ fn fields(alloc: Global) -> Result<Fields, Memory>
     Ok(list)
 }
 
+/// What the environment may call: a method on an object of the class, or a static one.
+fn entry(alloc: Global, method: u32) -> Result<Entry, Memory>
+    ensures { IfOk result (λ e. e ≡ record { class = record { 0 = 0 }; method = record { 0 = method }; marked = []; marks = true ∷ [] }) }
+{
+    Ok(Entry {
+        class: ClassId(0),
+        method: MethodId(method),
+        marked: Seq::new(alloc),
+        marks: marks(alloc)?,
+    })
+}
+
 fn entries(alloc: Global) -> Result<Entries, Memory>
     ensures { IfOk result (λ list. list ≡ sample.entries) }
 {
     let mut list = Seq::new(alloc);
-    list.push(Entry {
-        class: ClassId(0),
-        method: MethodId(0),
-        marked: Seq::new(alloc),
-    })?;
-    list.push(Entry {
-        class: ClassId(0),
-        method: MethodId(2),
-        marked: Seq::new(alloc),
-    })?;
+    list.push(entry(alloc, 0)?)?;
+    list.push(entry(alloc, 2)?)?;
     Ok(list)
 }
 
@@ -197,11 +238,12 @@ fn sites(alloc: Global) -> Result<Sites, Memory>
         index: 1,
         positions,
         target: Name::of(alloc, b"demo/Taint.sink(I)V")?,
+        category: 0,
     })?;
     Ok(list)
 }
 
-/// The program: one class, one field, and four methods of 4, 1, 1 and 0 instructions.
+/// The program: one class, one field, and five methods of 4, 1, 1, 0 and 1 instructions.
 pub fn sample(alloc: Global) -> Result<Program, Memory>
     ensures { IfOk result (λ p. p ≡ sample) }
 {
@@ -211,5 +253,8 @@ pub fn sample(alloc: Global) -> Result<Program, Memory>
     let fields = fields(alloc)?;
     let entries = entries(alloc)?;
     let sites = sites(alloc)?;
-    Ok(Program::new(classes, methods, fields, entries, sites))
+    let categories = Seq::new(alloc);
+    Ok(Program::new(
+        classes, methods, fields, entries, sites, categories,
+    ))
 }
