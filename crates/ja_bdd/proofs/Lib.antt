@@ -12,4 +12,3 @@ pub mod Picking
 pub mod Learning
 pub mod Renewing
 pub mod Partners
-pub mod Pooled

@@ -17,6 +17,3 @@ pub use worker::Worker;
 
 /// A list of nodes.
 pub type Roots = ja_base::Seq<ja_node_table::Node>;
-
-#[cfg(test)]
-mod tests;

@@ -27,6 +27,3 @@ pub use method::{Catch, Handler, Handlers, Instr, Instrs, Method, Methods};
 pub use op::{CallKind, CallOp, Op, Token};
 pub use program::{Parts, Program};
 pub use row::{LibRow, RowEffect, RowFlow, RowResult};
-
-#[cfg(test)]
-mod tests;

@@ -15,8 +15,6 @@ mod row;
 mod row_part;
 mod spelled;
 mod table;
-#[cfg(test)]
-mod tests;
 mod values;
 
 pub use default::default_table;

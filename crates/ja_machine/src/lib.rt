@@ -13,6 +13,3 @@ pub use law::{
     law_unwritten_stays,
 };
 pub use reach::{reaches, tainted};
-
-#[cfg(test)]
-mod tests;
