@@ -8,7 +8,7 @@ use Rattle.ja_ir.specs.declared.method.Method.{Method}
 use Rattle.ja_ir.specs.declared.method.Instr.{Instr}
 use Rattle.ja_ir.specs.declared.method.Handler.{Handler}
 use Rattle.ja_ir.specs.Blocks.{IsLeader, begins, branched, handles, initializes, follows, IsBlock, AreBlocks, StaysInside}
-use Rattle.ja_ir.specs.Leaders.{with_code, with_handlers, blocks_from, blocks_after}
+use Rattle.ja_ir.specs.InnerLeaders.{with_code, with_handlers, blocks_from, blocks_after}
 use Rattle.ja_ir.proofs.Marks.{has, Adds, Asks, CodeAsks, LedTo, code-adds, handlers-add}
 
 -- the place of an instruction that there is

@@ -6,7 +6,7 @@ use Rattle.std.proofs.Math.ListN.{length-set}
 use Rattle.ja_ir.specs.declared.method.Instr.{Instr}
 use Rattle.ja_ir.specs.declared.method.Handler.{Handler}
 use Rattle.ja_ir.specs.Blocks.{is_branch, ends_block, may_initialize}
-use Rattle.ja_ir.specs.Leaders.{with_places, with_place, with_targets, with_initializing, with_instr, with_code, with_handlers}
+use Rattle.ja_ir.specs.InnerLeaders.{with_places, with_place, with_targets, with_initializing, with_instr, with_code, with_handlers}
 
 -- the flag of the place is set
 abbrev pub has : List Bool → ℕ → Bool

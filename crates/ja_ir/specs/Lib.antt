@@ -9,6 +9,6 @@ pub mod Params
 pub mod Whole
 pub mod Entries
 pub mod Blocks
-pub mod Leaders
+pub mod InnerLeaders
 pub mod Examples
 pub mod Sample

@@ -1,7 +1,7 @@
 ghost use Rattle.std.specs.Prelude.{◌≡◌, ◌^◌, ◌<◌, ◌≤◌, ◌-◌, ◌+◌, All, IfOk, length};
 ghost use Rattle.ja_ir.specs.Blocks as blocks;
 ghost use Rattle.ja_ir.specs.Blocks.{AreBlocks, StaysInside};
-ghost use Rattle.ja_ir.specs.Leaders.{blocks_after, with_code, with_handlers, with_instr, with_place, with_places};
+ghost use Rattle.ja_ir.specs.InnerLeaders.{blocks_after, with_code, with_handlers, with_instr, with_place, with_places};
 
 use crate::{CallKind, Handler, Instr, Method, Op};
 use ja_base::{Memory, Seq};
