@@ -2,7 +2,7 @@ use Rattle.std.proofs.Common.{◌≡◌, ◌≢◌, ℕ, Err, ap, ◌∙◌, ref
 use Rattle.ja_io.specs.Written.{appended}
 use Rattle.ja_run.specs.Due.{whole, cut, no_folder, no_memory}
 use Rattle.ja_run.proofs.Endings.{answered_of, nothing_elsewhere, sound_of}
-use Rattle.ja_run.proofs.run.run.Goals as goal
+use Rattle.ja_run.proofs.analyse.run.Goals as goal
 
 pub returns-in-Ok-write_whole-clause-ends : goal.returns-in-Ok-write_whole-clause-ends
 returns-in-Ok-write_whole-clause-ends g c =
