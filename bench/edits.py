@@ -88,7 +88,10 @@ def look():
             print(f"{path}: {why}")
             failed = True
     in_gate = len(glob.glob("crates/*/must-fail/*.edit"))
-    print(f"edits: {in_gate} in the gate, {len(seen) - in_gate} beside it")
+    with open("README.md", encoding="utf-8") as it:
+        told = re.search(r"have (\d+): the\s+gate tries (\d+) of them", it.read())
+    is_told = told and (int(told[1]), int(told[2])) == (len(seen), in_gate)
+    print(f"edits: {in_gate} in the gate, {len(seen) - in_gate} beside it, {len(seen)} in all" + ("" if is_told else "; README.md says otherwise"))
     return int(failed)
 
 
