@@ -1,4 +1,5 @@
--- Which class initialisers an instruction may run before it does its operation (JVM specification 5.5).
+-- Which class initialisers an instruction may run before it does its operation. The JVM specification (5.5) runs each once, after those of the
+-- superclass; here each of the program supertypes' initialisers may run, any number of times and in any order.
 use Rattle.std.specs.Prelude.{◌≡◌, ℕ, List, [], Option, Some, None, Contains, slice_get}
 use Rattle.ja_base.specs.declared.id.MethodId.{MethodId}
 use Rattle.ja_ir.specs.declared.program.Parts.{Parts}
@@ -29,13 +30,13 @@ abbrev pub inits_of_method : Parts → Option Method → List MethodId
 inits_of_method p None = []
 inits_of_method p (Some method) = inits_of_class (slice_get p.classes method.class.0)
 
--- the class initialisers for a call of this kind that found this: those of the class that declares the static method with code
+-- the class initialisers for a call of this kind that found this: where a static call found a method with code, those of the class that declares it
 abbrev pub inits_of_call : Parts → CallKind → Option MethodAt → List MethodId
 inits_of_call p Static (Some (Program m)) = inits_of_method p (slice_get p.methods m.0)
 inits_of_call p _ _ = []
 
--- the class initialisers that an operation may run: those of the class of which it makes an object, whose static field it reads or writes, or
--- whose static method it calls
+-- the class initialisers that an operation may run: those of the class of which it makes an object, that declares the field which GetStatic or
+-- PutStatic names, or that declares the method with code which a static call found
 abbrev pub inits_of : Parts → Op → List MethodId
 inits_of p (New token) = inits_of_class (slice_get p.classes token.0)
 inits_of p (GetStatic field) = inits_of_field p (slice_get p.fields field.0)

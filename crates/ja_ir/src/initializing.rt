@@ -6,8 +6,9 @@ use ja_base::{FieldId, MethodId};
 
 impl Program {
     /// The class initialisers that an operation may run before it is done: those of the class of which
-    /// it makes an object, whose static field it reads or writes, or whose static method it calls
-    /// (JVM specification 5.5). It takes no memory.
+    /// it makes an object, that declares the field which it reads or writes as a static one, or that
+    /// declares the method with code which a static call found (JVM specification 5.5). It takes no
+    /// memory.
     pub fn inits_of(&self, op: &Op) -> &[MethodId]
         ensures { result.now ≡ initializing.inits_of self.now op.now }
     {

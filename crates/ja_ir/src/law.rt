@@ -1,8 +1,6 @@
-ghost use Rattle.std.specs.Prelude.{codes, true, ◌≡◌, ◌↔◌, Some, ℕ};
-ghost use Rattle.ja_ir.specs.declared.method.Method.{Method};
+ghost use Rattle.std.specs.Prelude.{◌≡◌, ◌↔◌, Some, ℕ};
 ghost use Rattle.ja_ir.specs.declared.program.Parts.{Parts};
-ghost use Rattle.ja_ir.specs.Lookup.{is_static};
-ghost use Rattle.ja_ir.specs.Entries.{IsConstructorOf, IsPlain, constructor_of, is_initializer};
+ghost use Rattle.ja_ir.specs.Entries.{IsConstructorOf, constructor_of};
 ghost use Rattle.ja_ir.specs.Examples.{LookUpsAnswer, TokensAreMade, TokensFit};
 ghost use Rattle.ja_ir.specs.Sample.{sample};
 ghost use Rattle.ja_ir.specs.Whole.{IsWhole};
@@ -20,8 +18,7 @@ pub fn law_sample_is_whole()
     ensures { IsWhole sample }
 {}
 
-/// The tests for class initialisers and constructors answer what these are.
+/// The search for a constructor answers what one is.
 pub fn law_environment_methods()
-    ensures initializer { (method : Method) → (is_initializer method ≡ true) ↔ ((is_static method.flags ≡ true) × IsPlain (codes "<clinit>") method) }
-    ensures constructor_is { (p : Parts) (c m : ℕ) → (constructor_of p c ≡ Some m) ↔ IsConstructorOf p c m }
+    ensures { (p : Parts) (c m : ℕ) → (constructor_of p c ≡ Some m) ↔ IsConstructorOf p c m }
 {}
