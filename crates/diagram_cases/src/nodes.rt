@@ -46,14 +46,14 @@ fn asked_of(words: &[&str]) -> Option<Asked>
     ensures { IfSome result (λ asked. asked.var ≤ 4094) }
 {
     match words {
-        ["number", var, lo, hi] => Some(asked(true, var, lo, hi)),
-        ["place", var, lo, hi] => Some(asked(false, var, lo, hi)),
+        ["number", var, lo, hi] => Some(asked_by(true, var, lo, hi)),
+        ["place", var, lo, hi] => Some(asked_by(false, var, lo, hi)),
         _ => None,
     }
 }
 
 /// What three words ask. The last variable stands for one that is none.
-fn asked(by_number: bool, var: &str, lo: &str, hi: &str) -> Asked
+fn asked_by(by_number: bool, var: &str, lo: &str, hi: &str) -> Asked
     ensures { result.var ≤ 4094 }
 {
     let var = var.parse::<u32>().unwrap_or(LAST).min(LAST);
