@@ -3,10 +3,11 @@ ghost use Rattle.std.specs.Prelude.{◌≤◌, ◌<◌, IfOk, IfSome};
 ghost use Rattle.ja_node_core.specs.Node.{Knows};
 ghost use Rattle.ja_node_table.specs.Seats.{IsOf, known};
 
+use crate::pool::LAST;
 use ja_base::{MAX_SLOTS, MIN_SLOTS, Memory};
 use ja_node_core::AnyAim;
 use ja_node_table::{Full, Node, NodeSeat, NodeTable, Parts};
-use std::alloc::Global;
+use std::alloc::{AllocError, Global};
 use std::thread::{Threads, join};
 
 fn constant(value: bool) -> Node
@@ -40,25 +41,37 @@ struct Asked {
     hi: bool,
 }
 
-/// What a line `number VAR LOW HIGH` or `place VAR LOW HIGH` asks.
-fn asked_of(line: &str) -> Option<Asked>
+/// What the words `number VAR LOW HIGH` or `place VAR LOW HIGH` ask.
+fn asked_of(words: &[&str]) -> Option<Asked>
     ensures { IfSome result (λ asked. asked.var ≤ 4094) }
 {
-    let mut words = line.split_whitespace();
-    let by_number = match words.next()? {
-        "number" => true,
-        "place" => false,
-        _ => return None,
-    };
-    let var = words.next()?.parse::<u32>().ok()?;
-    let lo = words.next()? == "1";
-    let hi = words.next()? == "1";
-    Some(Asked {
+    match words {
+        ["number", var, lo, hi] => Some(asked_by(true, var, lo, hi)),
+        ["place", var, lo, hi] => Some(asked_by(false, var, lo, hi)),
+        _ => None,
+    }
+}
+
+/// What three words ask. The last variable stands for one that is none.
+fn asked_by(by_number: bool, var: &str, lo: &str, hi: &str) -> Asked
+    ensures { result.var ≤ 4094 }
+{
+    let var = var.parse::<u32>().unwrap_or(LAST).min(LAST);
+    Asked {
         by_number,
-        var: var.min(4094),
-        lo,
-        hi,
-    })
+        var,
+        lo: lo == "1",
+        hi: hi == "1",
+    }
+}
+
+/// The words of a line.
+fn words_of<'a>(alloc: Global, line: &'a str) -> Result<Vec<&'a str>, AllocError> {
+    let mut words = Vec::new(alloc);
+    for word in line.split_whitespace() {
+        words.push(word)?;
+    }
+    Ok(words)
 }
 
 /// The place of a number among those that were printed, where it is put if it is new.
@@ -81,7 +94,8 @@ pub fn add_table(out: &mut String, alloc: Global, slots: u64, lines: &str) -> Re
     let (table, mut seat) = NodeTable::new(alloc, slots, AnyAim)?;
     let mut numbers = Vec::new(alloc);
     for line in lines.lines() {
-        if let Some(asked) = asked_of(line) {
+        let words = words_of(alloc, line)?;
+        if let Some(asked) = asked_of(words.as_slice()) {
             let made = make(&table, &mut seat, asked.var, asked.lo, asked.hi);
             add_made(out, &mut numbers, line, asked, &made)?;
         }

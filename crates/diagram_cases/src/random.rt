@@ -93,7 +93,8 @@ pub fn add_random(out: &mut String, alloc: Global) -> Result<(), Memory> {
         );
         let agrees = agrees(&mut pool, &table, at, &wanted)?;
         let some = wanted.iter().any(|word| *word != 0);
-        if agrees && pool.pick(&table, at, &mut a)? == some {
+        let picked = pool.pick(&table, at, &mut a)?;
+        if agrees && picked == some {
             right = right.saturating_add(1);
         }
         values.push(wanted)?;
