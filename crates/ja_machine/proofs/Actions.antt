@@ -43,7 +43,7 @@ ran-goes rest cs known (Cut x ys w) h = record { objects = h.objects; events = h
 ran-goes rest cs known (Failed x ys w) h = record { objects = h.objects; events = h.events }
 
 call-later : (b : Store) (p : Parts) (m : ℕ) (args : List Value) (w : World) (n : ℕ) → IsLater b w.store → IsLater b (store_in (call_run p m args w n))
-call-later b p m args w n h = run-keeps (IsLater b) (later-kept b) n p (start p m args w) w n h
+call-later b p m args w n h = run-keeps p (IsLater b) (later-kept p b) n (start p m args w) w n h
 
 -- the state after an attempt has gone on
 abbrev Goes : Rest → Attempt → Type 0
@@ -62,7 +62,7 @@ constructed-goes : (p : Parts) (rest : Rest) (k n : ℕ) (cs : List ℕ) (m : Op
 constructed-goes p rest k n cs None = goes-itself (Idle rest)
 constructed-goes p rest k n cs (Some m) =
     ran-goes rest cs _ (call_run p m (Ref (length rest.heap) ∷ []) (with_new p k (world_of rest cs)) n)
-    (call-later (world_of rest cs).store p m (Ref (length rest.heap) ∷ []) (with_new p k (world_of rest cs)) n ((later-kept (world_of rest cs).store).made _ (world_of rest cs).store (later-itself (world_of rest cs).store)))
+    (call-later (world_of rest cs).store p m (Ref (length rest.heap) ∷ []) (with_new p k (world_of rest cs)) n ((later-kept p (world_of rest cs).store).made _ _ _ (world_of rest cs).store (later-itself (world_of rest cs).store)))
 
 created-goes : (p : Parts) (rest : Rest) (n : ℕ) (cs : List ℕ) (it : Option Entry) → Goes rest (Environment.created p rest n cs it)
 created-goes p rest n cs None = goes-itself (Idle rest)
@@ -88,7 +88,7 @@ made-goes p rest mark takes cs made h = record {
 made_of_type-goes : (p : Parts) (rest : Rest) (mark : ℕ) (takes : List (List ℕ)) (cs : List ℕ) (t : Option JavaType) → Goes rest (Environment.made_of_type p rest mark takes cs t)
 made_of_type-goes p rest mark takes cs None = goes-itself (Idle rest)
 made_of_type-goes p rest mark takes cs (Some t) =
-    made-goes p rest mark takes cs (fresh p t mark (world_of rest cs)) (fresh-made (IsLater (world_of rest cs).store) (later-kept (world_of rest cs).store) p t mark (world_of rest cs) (later-itself (world_of rest cs).store))
+    made-goes p rest mark takes cs (fresh p t mark (world_of rest cs)) (fresh-made p (IsLater (world_of rest cs).store) (later-kept p (world_of rest cs).store) t mark (world_of rest cs) (later-itself (world_of rest cs).store))
 
 makes-goes : (p : Parts) (rest : Rest) (k : ℕ) (mark : ℕ) (takes : List (List ℕ)) (cs : List ℕ) (it : Option Entry) → Goes rest (Environment.made p rest k mark takes cs it)
 makes-goes p rest k mark takes cs None = goes-itself (Idle rest)

@@ -3,8 +3,10 @@ use Rattle.std.proofs.Common.{◌≡◌, ℕ, zero, suc, ◌<◌, ◌≤◌, ◌
 use Rattle.std.specs.Prelude.{Some, None, slice_get, slice_set}
 use Rattle.std.proofs.lemmas.List.Elements.{Contains-push, Contains-append_left, Contains-append_right}
 use Rattle.std.proofs.lemmas.Option.{none-some, same_Some, slice_get_within, slice_get_cases}
+use Rattle.ja_ir.specs.declared.program.Parts.{Parts}
 use Rattle.ja_machine.specs.declared.heap.Object.{Object}
 use Rattle.ja_machine.specs.State.{Store}
+use Rattle.ja_machine.specs.Objects.{new_object}
 use Rattle.ja_machine.specs.Laws.{BeginsWith, Becomes, IsStill, IsLater}
 use Rattle.ja_machine.proofs.Kept.{IsKept}
 
@@ -23,26 +25,26 @@ becomes-after a b c x y = record {
 }
 
 -- what stands in a list stands in a longer one
-get-longer : {X : Type 0} (xs : List X) (y : X) (k : ℕ) (x : X) → slice_get xs k ≡ Some x → slice_get (xs ++ y ∷ []) k ≡ Some x
+pub get-longer : {X : Type 0} (xs : List X) (y : X) (k : ℕ) (x : X) → slice_get xs k ≡ Some x → slice_get (xs ++ y ∷ []) k ≡ Some x
 get-longer [] y k x e = absurd (none-some x e)
 get-longer (z ∷ xs) y zero x e = e
 get-longer (z ∷ xs) y (suc k) x e = get-longer xs y k x e
 
 -- an item that was set where one was
-get-set : {X : Type 0} (xs : List X) (k : ℕ) (x y : X) → slice_get xs k ≡ Some x → slice_get (slice_set xs k y) k ≡ Some y
+pub get-set : {X : Type 0} (xs : List X) (k : ℕ) (x y : X) → slice_get xs k ≡ Some x → slice_get (slice_set xs k y) k ≡ Some y
 get-set [] k x y e = absurd (none-some x e)
 get-set (z ∷ xs) zero x y e = refl
 get-set (z ∷ xs) (suc k) x y e = get-set xs k x y e
 
 -- two places are one or not
-same-or-not : (j k : ℕ) → (j ≡ k) ⊎ (j ≡ k → ⊥)
+pub same-or-not : (j k : ℕ) → (j ≡ k) ⊎ (j ≡ k → ⊥)
 same-or-not zero zero = inl refl
 same-or-not zero (suc k) = inr (λ e. omega (arith, e))
 same-or-not (suc j) zero = inr (λ e. omega (arith, e))
 same-or-not (suc j) (suc k) = ⊎_elim (λ e. inl (ap suc e)) (λ n. inr (λ e. n (omega (arith, e)))) (same-or-not j k)
 
 -- the other items stay
-get-others : {X : Type 0} (xs : List X) (k j : ℕ) (y : X) → (j ≡ k → ⊥) → slice_get (slice_set xs k y) j ≡ slice_get xs j
+pub get-others : {X : Type 0} (xs : List X) (k j : ℕ) (y : X) → (j ≡ k → ⊥) → slice_get (slice_set xs k y) j ≡ slice_get xs j
 get-others [] k j y n = refl
 get-others (z ∷ xs) zero zero y n = absurd (n refl)
 get-others (z ∷ xs) zero (suc j) y n = refl
@@ -91,13 +93,13 @@ not-last : (b : List ℕ) (k r : ℕ) → (Contains (b ++ k ∷ []) r → ⊥) �
 not-last b k r n e = n (subst (λ (i : ℕ). Contains (b ++ k ∷ []) i) (sym e) (Contains-push b k))
 
 -- what comes after a store is kept by each change
-pub later-kept : (b : Store) → IsKept (IsLater b)
-later-kept b = record {
-  made = λ n w h. record {
-    objects = λ r o e. still-made w.heap n r o (h.objects r o e);
+pub later-kept : (p : Parts) (b : Store) → IsKept p (IsLater b)
+later-kept p b = record {
+  made = λ t m bag w h. record {
+    objects = λ r o e. still-made w.heap (new_object p t m bag) r o (h.objects r o e);
     writes = h.writes;
     written = h.written;
-    unwritten = λ r o m e. get-longer w.heap n r o (h.unwritten r o m e);
+    unwritten = λ r o n e. get-longer w.heap (new_object p t m bag) r o (h.unwritten r o n e);
     sets = h.sets;
     set = h.set;
     unset = h.unset;

@@ -8,3 +8,8 @@ pub mod Runs
 pub mod Later
 pub mod Longer
 pub mod Actions
+pub mod Slots
+pub mod Starts
+pub mod Leaves
+pub mod Effects
+pub mod Heaps

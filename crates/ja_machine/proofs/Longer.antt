@@ -18,7 +18,7 @@ use Rattle.ja_machine.proofs.Runs.{GoKeeps, resumes-keeps, stands_again-keeps, r
 
 -- a run only goes on from its store
 pub run-later : (d : ℕ) (p : Parts) (x : Point) (w : World) (l : ℕ) → IsLater w.store (store_in (run d p x w l))
-run-later d p x w l = run-keeps (IsLater w.store) (later-kept w.store) d p x w l (later-itself w.store)
+run-later d p x w l = run-keeps p (IsLater w.store) (later-kept p w.store) d x w l (later-itself w.store)
 
 -- the second run of what is left has k steps more
 abbrev GoExtends : ℕ → Continue → Continue → Type 0
@@ -67,7 +67,7 @@ module _ (k : ℕ) (go go' : Continue) (ext : GoExtends k go go') (keep : (s : S
       (thrown_object-extends x r (Failed x [] w) (dirtied y.frame.dirt f) w l (slice_get w.store.heap r) (failed x [] w))
   resumes-extends x next f _ _ (stuck y cs w) = stuck y (cs ++ x ∷ []) w
   resumes-extends x next f _ _ (failed y cs w) = failed y (cs ++ x ∷ []) w
-  resumes-extends x next f _ _ (cut y cs w o b) = cut y (cs ++ x ∷ []) w (resumes go' p x next f o) (resumes-keeps (IsLater w.store) (later-kept w.store) go' (keep w.store) p x next f o b)
+  resumes-extends x next f _ _ (cut y cs w o b) = cut y (cs ++ x ∷ []) w (resumes go' p x next f o) (resumes-keeps p (IsLater w.store) (later-kept p w.store) go' (keep w.store) x next f o b)
 
   stands_again-extends : (x : Point) (a b : Outcome) → Extends k a b → Extends k (stands_again go x a) (stands_again go' x b)
   stands_again-extends x _ _ (returned v d w l m e) =
@@ -75,7 +75,7 @@ module _ (k : ℕ) (go go' : Continue) (ext : GoExtends k go go') (keep : (s : S
   stands_again-extends x _ _ (threw r y w l m e) = failed y (x ∷ []) w
   stands_again-extends x _ _ (stuck y cs w) = stuck y (cs ++ x ∷ []) w
   stands_again-extends x _ _ (failed y cs w) = failed y (cs ++ x ∷ []) w
-  stands_again-extends x _ _ (cut y cs w o b) = cut y (cs ++ x ∷ []) w (stands_again go' x o) (stands_again-keeps (IsLater w.store) (later-kept w.store) go' (keep w.store) x o b)
+  stands_again-extends x _ _ (cut y cs w o b) = cut y (cs ++ x ∷ []) w (stands_again go' x o) (stands_again-keeps p (IsLater w.store) (later-kept p w.store) go' (keep w.store) x o b)
 
   follows-extends : (x : Point) (next : List ℕ) (before : World) (l : ℕ) (n : Next) → Extends k (follows go p x next before l n) (follows go' p x next before (l + k) n)
   follows-extends x next before l (Goes f w) = goes_on-extends x next (Stuck x [] before) f w l (stuck x [] before)
@@ -108,7 +108,7 @@ run-extends (suc d) k p x w (suc l) =
     let deeper : suc (d + k) ≡ suc d + k = omega arith in
     let more : suc (l + k) ≡ suc l + k = omega arith in
     let one : Extends k (steps (run d p) p x w l (instr_at p x.method x.index)) (steps (run (d + k) p) p x w (l + k) (instr_at p x.method x.index)) =
-    steps-extends k (run d p) (run (d + k) p) (run-extends d k p) (λ s. run-keeps (IsLater s) (later-kept s) (d + k) p) p x w l (instr_at p x.method x.index) in
+    steps-extends k (run d p) (run (d + k) p) (run-extends d k p) (λ s. run-keeps p (IsLater s) (later-kept p s) (d + k)) p x w l (instr_at p x.method x.index) in
     subst (λ (n : ℕ). Extends k (run (suc d) p x w (suc l)) (run n p x w (suc l + k))) deeper
     (subst (λ (n : ℕ). Extends k (run (suc d) p x w (suc l)) (run (suc (d + k)) p x w n)) more one)
 

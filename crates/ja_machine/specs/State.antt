@@ -1,5 +1,5 @@
 -- The states of the marked machine, and the choices that a run is given.
-use Rattle.std.specs.Prelude.{ℕ, zero, suc, ◌%◌, List, [], ◌∷◌, ◌++◌, Option, nat_le, if◌then◌else◌}
+use Rattle.std.specs.Prelude.{ℕ, zero, suc, ◌%◌, ◌==◌, List, [], ◌∷◌, ◌++◌, Option, Some, None, length, nat_le, if◌then◌else◌}
 use Rattle.ja_machine.specs.declared.heap.Value.{Value}
 use Rattle.ja_machine.specs.declared.heap.Object.{Object}
 use Rattle.ja_machine.specs.Marks.{union}
@@ -57,7 +57,7 @@ pub data Next : Type 0 where
 -- Threw: it threw the object at a place out of the method, from this point, with the frame as it was left.
 -- Stuck: no rule allows a step of the innermost frame, which stands as it stood before its instruction.
 -- Cut: all steps were made.
--- Failed: the run can not go on after a call that has ended: a class initialiser threw, from the innermost point; or the innermost frame has
+-- Failed: the run cannot go on after a call that has ended: a class initialiser threw, from the innermost point; or the innermost frame has
 -- no instruction, or no object that was thrown, with which to go on after a call.
 pub data Outcome : Type 0 where
   Returned : (value : Option Value) (dirt : ℕ) (world : World) (left : ℕ) → Outcome
@@ -101,6 +101,11 @@ abbrev pub beneath : ℕ → (stack : List Value) → List Value
 beneath zero stack = stack
 beneath (suc n) [] = []
 beneath (suc n) (value ∷ stack) = beneath n stack
+
+-- the value of slot k of a stack, where the slots are numbered from the bottom
+abbrev pub on_stack : (stack : List Value) → (k : ℕ) → Option Value
+on_stack [] k = None
+on_stack (value ∷ stack) k = if k == length stack then Some value else on_stack stack k
 
 -- the way that a choice picks among k, and the first where no choice is left
 abbrev pub way : (k : ℕ) → (choices : List ℕ) → ℕ
