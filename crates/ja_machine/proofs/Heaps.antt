@@ -23,7 +23,7 @@ use Rattle.ja_machine.specs.Step.{object_grown}
 use Rattle.ja_machine.specs.Run.{start, call_run, store_in}
 use Rattle.ja_machine.specs.Environment
 use Rattle.ja_machine.specs.Environment.{Known, Action, Initialize, Create, Make, CallEntry, Rest, State, Idle, Over, Attempt, world_of, with_new, taking, taking_from, attempt, settled, happens, after, begins_as_text, first_heap, first_state, program_run, heap_in}
-use Rattle.ja_machine.specs.Laws.{Becomes}
+use Rattle.ja_machine.specs.Laws.{Becomes, HasItsFields}
 use Rattle.ja_machine.proofs.Kept.{IsKept, if-keeps, fresh-made, grown-becomes}
 use Rattle.ja_machine.proofs.Runs.{run-keeps}
 use Rattle.ja_machine.proofs.Later.{get-set, get-others, same-or-not}
@@ -148,10 +148,6 @@ module _ (p : Parts) (Q : Object → Type 0) (of : IsOfObjects p Q) where
   -- each object of a program run has the property
   pub program-each : (actions : List Action) → Each Q (heap_in (program_run p actions))
   program-each actions = after-each (first_state p) actions (first-each p.fields)
-
--- the object has exactly the fields of its class, in their order
-abbrev pub HasItsFields : Parts → Object → Type 0
-HasItsFields p o = map (λ (f : FieldValue). f.field) o.fields ≡ map (λ (f : FieldValue). f.field) (defaults p o.token.0 0 p.fields)
 
 -- new objects have the fields of their class, and keep them
 fields-of-objects : (p : Parts) → IsOfObjects p (HasItsFields p)

@@ -1,10 +1,12 @@
 -- What holds of all runs, whatever the program.
 use Rattle.std.specs.Prelude.{◌≡◌, ℕ, ◌+◌, true, List, ◌++◌, map, Option, Some, Contains, slice_get}
+use Rattle.ja_ir.specs.declared.program.Parts.{Parts}
 use Rattle.ja_machine.specs.declared.heap.Value.{Value}
 use Rattle.ja_machine.specs.declared.heap.FieldValue.{FieldValue}
 use Rattle.ja_machine.specs.declared.heap.Object.{Object}
 use Rattle.ja_machine.specs.Marks.{has}
 use Rattle.ja_machine.specs.State.{Store, World, Point, Outcome, Returned, Threw, Stuck, Cut, Failed}
+use Rattle.ja_machine.specs.Objects.{defaults}
 use Rattle.ja_machine.specs.Run.{store_in}
 use Rattle.ja_machine.specs.Environment.{State, heap_in, events_of}
 
@@ -18,6 +20,10 @@ pub record Becomes (old new : Object) : Type 0 where
   pub fields : map (λ (f : FieldValue). f.field) new.fields ≡ map (λ (f : FieldValue). f.field) old.fields
   pub mark : (c : ℕ) → has old.mark c ≡ true → has new.mark c ≡ true
   pub bag : BeginsWith old.bag new.bag
+
+-- the object has exactly the fields of its class, in the order of the program's fields
+abbrev pub HasItsFields : Parts → Object → Type 0
+HasItsFields p object = map (λ (f : FieldValue). f.field) object.fields ≡ map (λ (f : FieldValue). f.field) (defaults p object.token.0 0 p.fields)
 
 -- an object still stands at its place, as what it has become
 pub record IsStill (heap : List Object) (place : ℕ) (old : Object) : Type 0 where

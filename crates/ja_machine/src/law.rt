@@ -7,8 +7,8 @@ ghost use Rattle.ja_machine.specs.Marks.{has, is_within, none, set_of, union};
 ghost use Rattle.ja_machine.specs.Reach.{IsTainted, Path, Reaches, bag_links, is_reached, is_tainted, links};
 ghost use Rattle.ja_machine.specs.State.{World};
 ghost use Rattle.ja_machine.specs.Run.{call_run, store_in};
-ghost use Rattle.ja_machine.specs.Laws.{Becomes, Extends, HasGoneOn, IsLater};
-ghost use Rattle.ja_machine.specs.Environment.{Action, program_run};
+ghost use Rattle.ja_machine.specs.Laws.{Becomes, Extends, HasGoneOn, HasItsFields, IsLater};
+ghost use Rattle.ja_machine.specs.Environment.{Action, heap_in, program_run};
 ghost use Rattle.ja_machine.specs.Examples.{ProgramsRun};
 ghost use Rattle.ja_machine.specs.Operations.{OperationsDo};
 
@@ -52,6 +52,11 @@ pub fn law_unwritten_stays()
 pub fn law_heaps_grow()
     ensures size { (p : Parts) (m : ℕ) (args : List Value) (world : World) (n : ℕ) → length world.store.heap ≤ length (store_in (call_run p m args world n)).heap }
     ensures objects { (p : Parts) (m : ℕ) (args : List Value) (world : World) (n place : ℕ) (new : Object) → slice_get (store_in (call_run p m args world n)).heap place ≡ Some new → (length world.store.heap ≤ place) ⊎ ((old : Object) × (slice_get world.store.heap place ≡ Some old) × Becomes old new) }
+{}
+
+/// Each object of a program run has exactly the fields of its class.
+pub fn law_objects_have_their_fields()
+    ensures { (p : Parts) (actions : List Action) (place : ℕ) (object : Object) → slice_get (heap_in (program_run p actions)) place ≡ Some object → HasItsFields p object }
 {}
 
 /// A program run only goes on with more actions.
