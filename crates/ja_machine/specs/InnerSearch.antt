@@ -36,9 +36,9 @@ meets_places (place ∷ places) s = meets_places places (meets_place place s)
 abbrev pub meets_object : Object → Seen → Seen
 meets_object object s = meets_places object.bag (meets_fields object.fields s)
 
--- some object is marked whose flag is set
-abbrev pub is_any_marked : List Object → List Bool → Bool
-is_any_marked heap flags = list_any (λ (p : Object × Bool). p.1 && is_marked p.0) (zip heap flags)
+-- some object has a mark of the category whose flag is set
+abbrev pub is_any_marked : (c : ℕ) → List Object → List Bool → Bool
+is_any_marked c heap flags = list_any (λ (p : Object × Bool). p.1 && is_marked c p.0) (zip heap flags)
 
 -- a search in a heap of so many objects that has met one place
 abbrev pub begun : (size place : ℕ) → Seen
