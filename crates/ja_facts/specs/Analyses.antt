@@ -1,14 +1,23 @@
--- The least solutions for a program.
-use Rattle.std.specs.Prelude.{List}
+-- What the equations of taint are given: what class sets, the call graph, pairs, effects, reachability and held cells say.
 use Rattle.ja_ir.specs.declared.program.Parts.{Parts}
 use Rattle.ja_facts.specs.Least.{Least}
 use Rattle.ja_facts.specs.ClassSets.{Fact as ClassFact, Rule as ClassRule}
 use Rattle.ja_facts.specs.Held.{Fact as HeldFact, Rule as HeldRule}
 use Rattle.ja_facts.specs.Sharing.{Fact as HeapFact, Rule as HeapRule}
 use Rattle.ja_facts.specs.Reaching.{Fact as ReachFact, Rule as ReachRule}
-use Rattle.ja_facts.specs.Equations.{Fact, Rule}
 
--- its least class sets and call graph
+-- what is known of a program before its equations are solved
+pub record Analyses : Type 1 where
+  -- class sets and the call graph
+  pub classes : ClassFact → Type 0
+  -- which cells tokens and fields hold
+  pub held : HeldFact → Type 0
+  -- pairs and effects
+  pub heaps : HeapFact → Type 0
+  -- reachability
+  pub reach : ReachFact → Type 0
+
+-- the least class sets and call graph of a program
 abbrev pub Classes : Parts → ClassFact → Type 0
 Classes p = Least (ClassRule p)
 
@@ -24,10 +33,6 @@ Heaps p = Least (HeapRule p (Classes p))
 abbrev pub Reaches : Parts → ReachFact → Type 0
 Reaches p = Least (ReachRule p (Classes p) (Heaps p))
 
--- the rules of its equations
-abbrev pub Rules : Parts → List Fact → Fact → Type 0
-Rules p = Rule p (Classes p) (Helds p) (Heaps p) (Reaches p)
-
--- what its equations tell of taint
-abbrev pub Taints : Parts → Fact → Type 0
-Taints p = Least (Rules p)
+-- the least of all four
+abbrev pub analyses_of : Parts → Analyses
+analyses_of p = record { classes = Classes p; held = Helds p; heaps = Heaps p; reach = Reaches p }
