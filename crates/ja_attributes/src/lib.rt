@@ -16,6 +16,3 @@ pub use field::field_attributes;
 pub use law::{law_any_attributes, law_field_attributes, law_method_attributes};
 pub use method::method_attributes;
 pub use skip::skip_attributes;
-
-#[cfg(test)]
-mod tests;

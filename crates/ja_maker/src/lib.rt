@@ -17,6 +17,3 @@ pub use ja_listing::{
 };
 pub use ja_writable::check_class;
 pub use write::write_class;
-
-#[cfg(test)]
-mod tests;
