@@ -6,12 +6,13 @@ use Rattle.ja_ir.specs.declared.op.CallOp.{CallOp}
 use Rattle.ja_ir.specs.declared.method.Instr.{Instr}
 use Rattle.ja_ir.specs.declared.op.CallKind.{CallKind}
 use Rattle.ja_ir.specs.declared.op.CallKind.TheVariants.{Static, StaticField, MemberField}
-use Rattle.ja_ir.specs.Lookup.{HasCode, instr_at, is_static}
+use Rattle.ja_ir.specs.declared.op.Op.TheVariants.{Call}
+use Rattle.ja_ir.specs.Lookup.{HasCode, OpAt, instr_at, is_static}
 use Rattle.ja_ir.specs.Operations.{arguments}
 use Rattle.ja_ir.specs.Params.{param_count}
 use Rattle.ja_ir.specs.Tokens.{absorbs}
 use Rattle.ja_sets.specs.Sets.{Has, HasPair}
-use Rattle.ja_facts.specs.Slots.{Slot, Local, OnStack, CallAt, argument}
+use Rattle.ja_facts.specs.Slots.{Slot, Local, OnStack, argument}
 use Rattle.ja_facts.specs.ClassSets.{Fact as ClassFact, Reached, InEnv, InSlot, InThrown, InParam, InResult, InOut, InField, InBag, CallsMethod, CallsAbstract, CallsLibrary, Spans, Takes, HasField, IsSource}
 use Rattle.ja_facts.specs.Held.{Fact as HeldFact, TokenHolds, FieldHolds, Cell, OfField, OfBag}
 use Rattle.ja_facts.specs.Sharing.{Fact as HeapFact, PairAt, PairWithin, Effect, Root, Arg, Fields, Name, At, Statics, Old, IsLive, LibraryCall}
@@ -121,11 +122,11 @@ IsMethodCall StaticField = ⊥
 IsMethodCall MemberField = ⊥
 IsMethodCall _ = Unit {0}
 
--- instruction i of method m is a call
+-- instruction i of method m is a call, whether it is reached or not
 pub record IsCallAt (p : Parts) (m i : ℕ) : Type 0 where
   pub call : CallOp
-  pub under : ℕ
-  pub at : CallAt p m i call under
+  pub height : ℕ
+  pub at : OpAt p m i (Call call) height
 
 -- method n is one that the call may go to: it has the call's name, descriptor and number of arguments, and is static exactly where the call is
 pub record IsTargetOf (p : Parts) (call : CallOp) (n : ℕ) : Type 0 where
@@ -143,12 +144,12 @@ pub record IsReachedIn (p : Parts) (m i : ℕ) : Type 0 where
   pub found : instr_at p m i ≡ Some instr
   pub reached : instr.reached ≡ true
 
--- the call graph is one for the program: it reaches only what some path within the methods reaches, only calls have targets and takers, each
+-- the call graph is one for the program: it reaches only what the kinds reach, only calls have targets and takers, each
 -- method among the targets is one that the call may go to, and each taker is absorbing
 pub record IsGraphFor (p : Parts) (graph : GraphTable) : Type 0 where
   pub reached : (m i : ℕ) → is_reached graph m i ≡ true → IsReachedIn p m i
   pub targets : (m i n : ℕ) → Contains (targets_at graph m i).methods n → IsCallAt p m i
-  pub each : (m i n under : ℕ) (call : CallOp) → CallAt p m i call under → Contains (targets_at graph m i).methods n → IsTargetOf p call n
+  pub each : (m i n height : ℕ) (call : CallOp) → OpAt p m i (Call call) height → Contains (targets_at graph m i).methods n → IsTargetOf p call n
   pub library : (m i : ℕ) → (targets_at graph m i).library ≡ true → IsCallAt p m i
   pub takers : (m i t : ℕ) → Has (takers_at graph m i) t → IsCallAt p m i × (absorbs p t ≡ true)
 

@@ -57,7 +57,7 @@ verdict_text false = codes "clean"
 -- what the line of a site says of its category, by the names of the categories: nothing where these have no names
 abbrev pub category_text : (names : List (List ℕ)) → (c : ℕ) → List ℕ
 category_text [] c = []
-category_text (name ∷ names) c = codes " in " ++ slice_index_or (name ∷ names) c []
+category_text (name ∷ names) c = codes " in " ++ printed (slice_index_or (name ∷ names) c [])
 
 -- the line of a site: its verdict, its method, its pc, what it calls, and its category
 abbrev pub site_line : Parts → Site → (warned : Bool) → List ℕ

@@ -82,8 +82,8 @@ pub fn law_empty_tells_nothing()
     ensures graph { (p : Parts) (f : ClassFact) → TellsGraph p (empty_graph p) f → ⊥ }
 {}
 
-/// Where the entries mark more positions, the equations lose no fact, at the same class sets, held
-/// cells, pairs, effects and reachability.
+/// Where the entries of the program of one category mark more positions, the equations lose no fact, at
+/// the same class sets, held cells, pairs, effects and reachability.
 pub fn law_marks_lose_nothing()
     ensures { (p : Parts) (entries : List Entry) → MarkMore p.entries entries → (f : Fact) → Least (Rule p (analyses_of p)) f → Least (Rule (with_entries p entries) (analyses_of p)) f }
 {}
