@@ -2,6 +2,7 @@
 //! environment may call.
 #![tactic(auto)]
 
+mod category;
 mod default;
 mod entry;
 mod entry_part;

@@ -13,6 +13,7 @@ impl fmt::Display for FaultText {
             None => f.write_str("read"),
             Some(TableFault::Text) => f.write_str("no text in TOML"),
             Some(TableFault::UnknownKey) => f.write_str("unknown key"),
+            Some(TableFault::BadCategory) => f.write_str("bad category"),
             Some(TableFault::BadRow { row }) => write!(f, "bad row {row}"),
             Some(TableFault::BadEntry { entry }) => write!(f, "bad entry {entry}"),
             Some(TableFault::Memory) => f.write_str("out of memory"),
