@@ -6,3 +6,4 @@ mod Outline
 mod Absorbing
 pub mod Found
 pub mod Whole
+pub mod Initializers

@@ -4,6 +4,7 @@ use Rattle.std.specs.Prelude.{◌↔◌, Some, All, slice_get}
 use Rattle.std.proofs.lemmas.Option.{same_Some}
 use Rattle.std.proofs.lemmas.List.Elements.{All-head, All-tail}
 use Rattle.ja_base.specs.declared.id.ClassId.{ClassId}
+use Rattle.ja_base.specs.declared.id.MethodId.{MethodId}
 use Rattle.ja_ir.specs.declared.head.ClassHead.{ClassHead}
 use Rattle.ja_ir.specs.declared.class.ClassInfo.{ClassInfo}
 use Rattle.ja_ir.specs.declared.class.MethodAt.{MethodAt}
@@ -18,6 +19,7 @@ use Rattle.ja_hier.proofs.OneAnswer.{one-method}
 use Rattle.ja_heads.specs.declared.signature.Signature.{Signature}
 use Rattle.ja_heads.specs.Classes.{AreClassInfos, AreSupers, IsAbsorbing, IsClassInfo}
 use Rattle.ja_heads.specs.Entries.{AreEntries, ClassAdds, concrete, other, ClassesAdd, no_class, next_class, EntersBy, entry_at, is_concrete, RowAdds, enters, passes, RowsAdd, no_row, next_row}
+use Rattle.ja_heads.specs.Initializers.{initializers_of}
 use Rattle.ja_heads.specs.Signatures.{first_seen, numbers_of, own_first, selected, signatures_of}
 use Rattle.ja_heads.proofs.Ascending.{same-ascending}
 
@@ -67,9 +69,9 @@ same-flags P true b p q = sym (q.1 (p.0 refl))
 same-flags P false true p q = absurd (true≢false (sym (p.1 (q.0 refl))))
 same-flags P false false p q = refl
 
-info : (name file : List ℕ) (flags : ℕ) (absorbing : Bool) (supers : List ClassId) (selections : List Selection) → ClassInfo
-info name file flags absorbing supers selections =
-    record { name = name; file = file; flags = flags; absorbing = absorbing; supers = supers; selections = selections }
+info : (name file : List ℕ) (flags : ℕ) (absorbing : Bool) (supers : List ClassId) (selections : List Selection) (inits : List MethodId) → ClassInfo
+info name file flags absorbing supers selections inits =
+    record { name = name; file = file; flags = flags; absorbing = absorbing; supers = supers; selections = selections; inits = inits }
 
 same-info : (heads : List ClassHead) (path : List ℕ) (c : ℕ) (a b : ClassInfo) → IsClassInfo heads path c a → IsClassInfo heads path c b → a ≡ b
 unfolding info
@@ -83,12 +85,14 @@ same-info heads path c a b p q =
     let keys : map selected a.selections ≡ map selected b.selections =
     p.selections.signatures ∙ ap (λ (ids : List ClassId). first_seen (signatures_of heads (own_first c (numbers_of ids)))) supers ∙ sym q.selections.signatures in
     let selections : a.selections ≡ b.selections = same-listed heads c a.selections b.selections keys p.selections.targets q.selections.targets in
-    ap (λ (n : List ℕ). info n a.file a.flags a.absorbing a.supers a.selections) names
-    ∙ ap (λ (f : List ℕ). info b.name f a.flags a.absorbing a.supers a.selections) files
-    ∙ ap (λ (n : ℕ). info b.name b.file n a.absorbing a.supers a.selections) flags
-    ∙ ap (λ (v : Bool). info b.name b.file b.flags v a.supers a.selections) absorb
-    ∙ ap (λ (l : List ClassId). info b.name b.file b.flags b.absorbing l a.selections) supers
-    ∙ ap (λ (l : List Selection). info b.name b.file b.flags b.absorbing b.supers l) selections
+    let inits : a.inits ≡ b.inits = p.inits ∙ ap (λ (ids : List ClassId). initializers_of heads (numbers_of ids)) supers ∙ sym q.inits in
+    ap (λ (n : List ℕ). info n a.file a.flags a.absorbing a.supers a.selections a.inits) names
+    ∙ ap (λ (f : List ℕ). info b.name f a.flags a.absorbing a.supers a.selections a.inits) files
+    ∙ ap (λ (n : ℕ). info b.name b.file n a.absorbing a.supers a.selections a.inits) flags
+    ∙ ap (λ (v : Bool). info b.name b.file b.flags v a.supers a.selections a.inits) absorb
+    ∙ ap (λ (l : List ClassId). info b.name b.file b.flags b.absorbing l a.selections a.inits) supers
+    ∙ ap (λ (l : List Selection). info b.name b.file b.flags b.absorbing b.supers l a.inits) selections
+    ∙ ap (λ (l : List MethodId). info b.name b.file b.flags b.absorbing b.supers b.selections l) inits
 
 -- lists that agree at each place
 same-lists : {A : Type 0} (xs ys : List A) → length xs ≡ length ys → ((k : ℕ) (x y : A) → k < length xs → slice_get xs k ≡ Some x → slice_get ys k ≡ Some y → x ≡ y) → xs ≡ ys

@@ -1,12 +1,13 @@
 -- The parts of an outline are whole in a program whose methods are those that the heads declare.
 use Rattle.std.proofs.Common.{◌≡◌, ℕ, zero, suc, ◌+◌, ◌<◌, Bool, true, false, not, ◌&&◌, List, [], ◌∷◌, length, map, get_or, filter, refl, sym, ap, ◌∙◌, subst, arith, true≢false}
-use Rattle.std.specs.Prelude.{◌↔◌, Some, All, bytes_eq, codes, slice_get}
+use Rattle.std.specs.Prelude.{◌↔◌, Some, All, bytes_eq, codes, slice_get, sum_by, take}
 use Rattle.std.proofs.lemmas.Bool.{and_parts, not-true}
 use Rattle.std.proofs.lemmas.Slice.Eq.{bytes_eq-Decides}
 use Rattle.std.proofs.lemmas.List.Quantifiers.{position-Some}
 use Rattle.std.proofs.lemmas.List.Elements.{All-append, All-cons, All-filter, All-head, All-map, All-nil, All-push, All-tail}
-use Rattle.std.proofs.lemmas.Option.{slice_get-get_or, slice_get_within, same_Some}
+use Rattle.std.proofs.lemmas.Option.{get_or_from_slice_get, slice_get-get_or, slice_get_within, same_Some}
 use Rattle.ja_base.specs.declared.id.ClassId.{ClassId}
+use Rattle.ja_base.specs.declared.id.MethodId.{MethodId}
 use Rattle.ja_ir.specs.declared.program.Parts.{Parts}
 use Rattle.ja_ir.specs.declared.head.ClassHead.{ClassHead}
 use Rattle.ja_ir.specs.declared.head.HeadField.{HeadField}
@@ -19,18 +20,23 @@ use Rattle.ja_ir.specs.declared.class.Selection.{Selection}
 use Rattle.ja_ir.specs.declared.entry.Entry.{Entry}
 use Rattle.ja_ir.specs.declared.method.Method.{Method}
 use Rattle.ja_ir.specs.Lookup.{HasCode, is_abstract, is_member, is_static}
-use Rattle.ja_ir.specs.Whole.{HasConstructor, IsAnswer, IsMember, IsNamed, IsWholeEntry, IsWholeSelection, SpellsField, SpellsMethod}
-use Rattle.ja_lib.specs.Content.{Content}
+use Rattle.ja_ir.specs.Whole.{HasConstructor, IsAnswer, IsMember, IsNamed, IsWholeEntry, IsWholeSelection, NamesInitializer, SpellsField, SpellsMethod}
+use Rattle.ja_ir.specs.Categories.{category_count, count_of_names}
+use Rattle.ja_lib.specs.Content.{Content, IsCategorized}
 use Rattle.ja_lib.specs.declared.entry.EntryRow.{EntryRow}
 use Rattle.ja_hier.specs.declared.skip.Skip.{Skip}
 use Rattle.ja_hier.specs.declared.skip.Skip.TheVariants.{NotVirtual}
+use Rattle.ja_hier.specs.declared.starts.Member.TheVariants.{Method as OfMethods}
+use Rattle.ja_hier.specs.Members.{count_of}
 use Rattle.ja_hier.specs.LookUps.{Finds, fields_of, method_number, methods_of}
 use Rattle.ja_heads.specs.declared.signature.Signature.{Signature}
 use Rattle.ja_heads.specs.Classes.{AreClassInfos, AreSelections}
 use Rattle.ja_heads.specs.Entries.{AreEntries, CanBeMade, ClassAdds, concrete, other, ClassesAdd, no_class, next_class, EntersBy, entry_at, is_entry_point, RowAdds, enters, passes, RowsAdd, no_row, next_row}
+use Rattle.ja_heads.specs.Initializers.{initializers_in, initializers_of, is_initializer}
 use Rattle.ja_heads.specs.Fields.{AreFields, field_of, fields_from}
 use Rattle.ja_heads.specs.Signatures.{first_seen, is_same, numbers_of, own_first, selected, signature_of, signatures_in, signatures_of}
 use Rattle.ja_heads.proofs.Found.{IsFoundAs, IsFoundAnswer, found-answer, kept-member}
+use Rattle.ja_heads.proofs.Initializers.{from_each}
 use Rattle.ja_heads.proofs.Inside.{supers-inside}
 
 -- the method is the one that class c declares so
@@ -250,30 +256,77 @@ entered p heads c head row false m agrees found e =
       receiver = λ member. constructor p heads c head agrees found e.made;
     }
 
+-- the row says of each category of the program whether marks of it may be given
+abbrev IsMarkedFor : Parts → EntryRow → Type 0
+IsMarkedFor p row = length row.marks ≡ category_count p
+
 whole-row : (p : Parts) (heads : List ClassHead) (c : ℕ) (head : ClassHead) (row : EntryRow) (so_far after : List Entry) → AgreesWith heads p.methods → length p.classes ≡ length heads → slice_get heads c ≡ Some head
-    → RowAdds heads c head row so_far after → All (IsWholeEntry p) so_far → All (IsWholeEntry p) after
-whole-row p heads c head row so_far after agrees size found (enters m e) all =
+    → IsMarkedFor p row → RowAdds heads c head row so_far after → All (IsWholeEntry p) so_far → All (IsWholeEntry p) after
+whole-row p heads c head row so_far after agrees size found marked (enters m e) all =
     let x : IsEntered p c m = entered p heads c head row row.is_static m agrees found e in
     All-push (IsWholeEntry p) so_far (entry_at c m row) all
-    (record { class = omega (arith, slice_get_within heads c head found, size); method = x.method; found = x.found; code = x.code; receiver = x.receiver })
-whole-row p heads c head row so_far after agrees size found (passes none) all = all
+    (record { class = omega (arith, slice_get_within heads c head found, size); method = x.method; found = x.found; code = x.code; receiver = x.receiver; marks = marked })
+whole-row p heads c head row so_far after agrees size found marked (passes none) all = all
 
 whole-rows : (p : Parts) (heads : List ClassHead) (rows : List EntryRow) (c : ℕ) (head : ClassHead) (so_far : List Entry) (k : ℕ) (after : List Entry) → AgreesWith heads p.methods → length p.classes ≡ length heads
-    → slice_get heads c ≡ Some head → RowsAdd heads rows c head so_far k after → All (IsWholeEntry p) so_far → All (IsWholeEntry p) after
-whole-rows p heads rows c head so_far k after agrees size found no_row all = all
-whole-rows p heads rows c head so_far k after agrees size found (next_row {k = j} {before = before} row e s t) all =
-    whole-row p heads c head row before after agrees size found t (whole-rows p heads rows c head so_far j before agrees size found s all)
+    → slice_get heads c ≡ Some head → All (IsMarkedFor p) rows → RowsAdd heads rows c head so_far k after → All (IsWholeEntry p) so_far → All (IsWholeEntry p) after
+whole-rows p heads rows c head so_far k after agrees size found marked no_row all = all
+whole-rows p heads rows c head so_far k after agrees size found marked (next_row {k = j} {before = before} row e s t) all =
+    let own : IsMarkedFor p row = subst (IsMarkedFor p) (get_or_from_slice_get rows j row row e) (marked j row (slice_get_within rows j row e)) in
+    whole-row p heads c head row before after agrees size found own t (whole-rows p heads rows c head so_far j before agrees size found marked s all)
 
 whole-class : (p : Parts) (heads : List ClassHead) (rows : List EntryRow) (c : ℕ) (so_far after : List Entry) → AgreesWith heads p.methods → length p.classes ≡ length heads
-    → ClassAdds heads rows c so_far after → All (IsWholeEntry p) so_far → All (IsWholeEntry p) after
-whole-class p heads rows c so_far after agrees size (concrete head found t s) all = whole-rows p heads rows c head so_far (length rows) after agrees size found s all
-whole-class p heads rows c so_far after agrees size (other head found t) all = all
+    → All (IsMarkedFor p) rows → ClassAdds heads rows c so_far after → All (IsWholeEntry p) so_far → All (IsWholeEntry p) after
+whole-class p heads rows c so_far after agrees size marked (concrete head found t s) all = whole-rows p heads rows c head so_far (length rows) after agrees size found marked s all
+whole-class p heads rows c so_far after agrees size marked (other head found t) all = all
 
 whole-classes : (p : Parts) (heads : List ClassHead) (rows : List EntryRow) (c : ℕ) (after : List Entry) → AgreesWith heads p.methods → length p.classes ≡ length heads
-    → ClassesAdd heads rows c after → All (IsWholeEntry p) after
-whole-classes p heads rows c after agrees size no_class = All-nil (IsWholeEntry p)
-whole-classes p heads rows c after agrees size (next_class {c = d} {before = before} s t) = whole-class p heads rows d before after agrees size t (whole-classes p heads rows d before agrees size s)
+    → All (IsMarkedFor p) rows → ClassesAdd heads rows c after → All (IsWholeEntry p) after
+whole-classes p heads rows c after agrees size marked no_class = All-nil (IsWholeEntry p)
+whole-classes p heads rows c after agrees size marked (next_class {c = d} {before = before} s t) =
+    whole-class p heads rows d before after agrees size marked t (whole-classes p heads rows d before agrees size marked s)
 
 -- the entries are whole
-pub whole-entries : (p : Parts) (heads : List ClassHead) (content : Content) (entries : List Entry) → AgreesWith heads p.methods → length p.classes ≡ length heads → AreEntries heads content entries → All (IsWholeEntry p) entries
-whole-entries p heads content entries agrees size are = whole-classes p heads content.entries (length heads) entries agrees size are
+pub whole-entries : (p : Parts) (heads : List ClassHead) (content : Content) (entries : List Entry) → AgreesWith heads p.methods → length p.classes ≡ length heads
+    → IsCategorized content → p.categories ≡ content.categories → AreEntries heads content entries → All (IsWholeEntry p) entries
+whole-entries p heads content entries agrees size about names are =
+    whole-classes p heads content.entries (length heads) entries agrees size (λ k d lt. about.entries k d lt ∙ ap count_of_names (sym names)) are
+
+-- ---- class initialisers
+
+initializer : (p : Parts) (heads : List ClassHead) (c k : ℕ) (declared : HeadMethod) → AgreesWith heads p.methods → slice_get (methods_of (slice_get heads c)) k ≡ Some declared → is_initializer declared ≡ true
+    → NamesInitializer p (method_number heads c k)
+initializer p heads c k declared agrees placed is =
+    let in-program : (method : Method) × (slice_get p.methods (method_number heads c k) ≡ Some method) × IsDeclaredAs c declared method = agrees c k declared placed in
+    let first : (bytes_eq declared.name (codes "<clinit>") ≡ true) × ((bytes_eq declared.desc (codes "()V") && (is_static declared.flags && not (is_abstract declared.flags))) ≡ true) =
+    and_parts (bytes_eq declared.name (codes "<clinit>")) (bytes_eq declared.desc (codes "()V") && (is_static declared.flags && not (is_abstract declared.flags))) is in
+    let second : (bytes_eq declared.desc (codes "()V") ≡ true) × ((is_static declared.flags && not (is_abstract declared.flags)) ≡ true) =
+    and_parts (bytes_eq declared.desc (codes "()V")) (is_static declared.flags && not (is_abstract declared.flags)) first.1 in
+    let third : (is_static declared.flags ≡ true) × (not (is_abstract declared.flags) ≡ true) = and_parts (is_static declared.flags) (not (is_abstract declared.flags)) second.1 in
+    record {
+      method = in-program.0;
+      named = record {
+        found = in-program.1;
+        is_name = in-program.2.name_is ∙ (bytes_eq-Decides declared.name (codes "<clinit>")).0 first.0;
+        is_desc = in-program.2.desc_is ∙ (bytes_eq-Decides declared.desc (codes "()V")).0 second.0;
+      };
+      belongs = ap (λ n. is_static n) in-program.2.flags_are ∙ third.0;
+      code = in-program.2.code.1 (not-true (is_abstract declared.flags) third.1);
+    }
+
+initializers : (p : Parts) (heads : List ClassHead) → AgreesWith heads p.methods → (classes : List ℕ) → All (λ m. NamesInitializer p m.0) (initializers_of heads classes)
+initializers p heads agrees [] = All-nil (λ (m : MethodId). NamesInitializer p m.0)
+initializers p heads agrees (c ∷ classes) =
+    All-append (λ (m : MethodId). NamesInitializer p m.0) (initializers_in heads c) (initializers_of heads classes)
+    (from_each (λ (m : MethodId). NamesInitializer p m.0) (sum_by (count_of OfMethods) (take c heads)) (methods_of (slice_get heads c)) (λ k declared at is.
+    initializer p heads c k declared agrees at is))
+    (initializers p heads agrees classes)
+
+-- each class initialiser that a class names is one
+pub whole-inits : (p : Parts) (heads : List ClassHead) (files : List (List ℕ)) (infos : List ClassInfo) → AgreesWith heads p.methods → AreClassInfos heads files infos
+    → All (λ info. All (λ m. NamesInitializer p m.0) info.inits) infos
+whole-inits p heads files infos agrees are k d lt =
+    let file : (path : List ℕ) × (slice_get files k ≡ Some path) = there files k (omega (arith, are.size, are.placed)) in
+    let info : ClassInfo = get_or infos k d in
+    subst (λ (l : List MethodId). All (λ m. NamesInitializer p m.0) l) (sym (are.each k file.0 info file.1 (slice_get-get_or infos k d lt)).inits)
+    (initializers p heads agrees (numbers_of info.supers))

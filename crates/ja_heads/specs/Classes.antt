@@ -9,6 +9,7 @@ use Rattle.ja_hier.specs.declared.skip.Skip.TheVariants.{NotVirtual}
 use Rattle.ja_hier.specs.LookUps.{Finds}
 use Rattle.ja_supertypes.specs.Supertypes.{IsAtOrAbove, object_name}
 use Rattle.ja_supertypes.specs.LibraryTypes.{IsNearest}
+use Rattle.ja_heads.specs.Initializers.{initializers_of}
 use Rattle.ja_heads.specs.Signatures.{numbers_of, own_first, selected, first_seen, signatures_of}
 
 -- the nearest library superclass of class c is another one than `java/lang/Object`
@@ -28,7 +29,8 @@ pub record AreSelections (heads : List ClassHead) (c : ℕ) (supers : List Class
   pub signatures : map selected selections ≡ first_seen (signatures_of heads (own_first c (numbers_of supers)))
   pub targets : All (λ selection. Finds heads NotVirtual selection.name selection.desc c selection.target) selections
 
--- what a program says of class c, which stands in the file of this path
+-- what a program says of class c, which stands in the file of this path; it is initialised by the class initialisers of the classes at or above it,
+-- in the order of their numbers (JVM specification 5.5)
 pub record IsClassInfo (heads : List ClassHead) (path : List ℕ) (c : ℕ) (info : ClassInfo) : Type 0 where
   pub head : ClassHead
   pub found : slice_get heads c ≡ Some head
@@ -38,6 +40,7 @@ pub record IsClassInfo (heads : List ClassHead) (path : List ℕ) (c : ℕ) (inf
   pub absorbing : (info.absorbing ≡ true) ↔ IsAbsorbing heads c
   pub supers : AreSupers heads c info.supers
   pub selections : AreSelections heads c info.supers info.selections
+  pub inits : info.inits ≡ initializers_of heads (numbers_of info.supers)
 
 -- what a program says of all its classes, in their order; the file of each stands at its place
 pub record AreClassInfos (heads : List ClassHead) (files : List (List ℕ)) (infos : List ClassInfo) : Type 0 where

@@ -64,9 +64,9 @@ EntersBy false heads c head row m = EntersOnObject heads c head row m
 abbrev pub Enters : List ClassHead → (c : ℕ) → ClassHead → EntryRow → (m : ℕ) → Type 0
 Enters heads c head row m = EntersBy row.is_static heads c head row m
 
--- method m of class c as an entry, with the positions that the row marks
+-- method m of class c as an entry, with the positions and the categories that the row marks
 abbrev pub entry_at : (c m : ℕ) → EntryRow → Entry
-entry_at c m row = record { class = record { 0 = c }; method = record { 0 = m }; marked = row.marked }
+entry_at c m row = record { class = record { 0 = c }; method = record { 0 = m }; marked = row.marked; marks = row.marks }
 
 -- the entries so far, and behind them the one that the row makes of class c, where it makes one
 pub data RowAdds (heads : List ClassHead) (c : ℕ) (head : ClassHead) (row : EntryRow) (so_far : List Entry) : List Entry → Type 0 where

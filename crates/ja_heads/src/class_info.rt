@@ -1,6 +1,9 @@
-ghost use Rattle.std.specs.Prelude.{◌≡◌, ◌<◌, ◌≤◌, ◌^◌, ◌↔◌, Some, IfOk, IsTrue, length, slice_get};
+ghost use Rattle.std.specs.Prelude.{◌≡◌, ◌<◌, ◌≤◌, ◌^◌, ◌↔◌, Some, IfOk, IsTrue, length, slice_get, sum_by};
+ghost use Rattle.ja_hier.specs.declared.starts.Member.TheVariants.{Method};
+ghost use Rattle.ja_hier.specs.Members.{count_of};
 ghost use Rattle.ja_heads.specs.Classes.{AreClassInfos, AreSupers, IsAbsorbing, IsClassInfo};
 
+use crate::initializer::initializers;
 use crate::selection::selections;
 use crate::supers::at_or_above;
 use ja_base::{ClassId, Memory, Name, Names, Seq};
@@ -11,6 +14,7 @@ use std::alloc::Global;
 /// What a program says of each of its classes. The name of the file of each class stands at its place.
 pub fn class_infos(alloc: Global, hier: &Hier, files: &Names) -> Result<ClassInfos, Memory>
     requires few { length hier.now ≤ 2 ^ 26 }
+    requires methods { sum_by (count_of Method) hier.now ≤ 2 ^ 26 }
     requires files { length files.now ≡ length hier.now }
     ensures { IfOk result (AreClassInfos hier.now files.now) }
 {
@@ -24,12 +28,14 @@ pub fn class_infos(alloc: Global, hier: &Hier, files: &Names) -> Result<ClassInf
 /// What a program says of a class.
 fn class_info(alloc: Global, hier: &Hier, class: ClassId, file: &Name) -> Result<ClassInfo, Memory>
     requires few { length hier.now ≤ 2 ^ 26 }
+    requires methods { sum_by (count_of Method) hier.now ≤ 2 ^ 26 }
     requires inside { class.0 < length hier.now }
     ensures { IfOk result (IsClassInfo hier.now file.now class.0) }
 {
     let head = hier.heads().at(class.0 as u64);
     let supers = supers(alloc, hier, class)?;
     let selections = selections(alloc, hier, class, supers.as_slice())?;
+    let inits = initializers(alloc, hier, supers.as_slice())?;
     let name = head.name.copy(alloc)?;
     let file = file.copy(alloc)?;
     let absorbing = is_absorbing(hier, class);
@@ -40,6 +46,7 @@ fn class_info(alloc: Global, hier: &Hier, class: ClassId, file: &Name) -> Result
         absorbing,
         supers,
         selections,
+        inits,
     })
 }
 

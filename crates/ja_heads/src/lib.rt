@@ -7,6 +7,7 @@ mod entering;
 mod entry;
 mod field;
 mod flags;
+mod initializer;
 mod law;
 mod selection;
 mod signature;

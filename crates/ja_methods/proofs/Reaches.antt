@@ -20,7 +20,7 @@ use Rattle.ja_ir.specs.Handlers.{in_range}
 use Rattle.ja_ir.specs.Whole.{IsReachedAt, Runs}
 use Rattle.ja_class.specs.Meaning.{ClassSpelled}
 use Rattle.ja_class.specs.ClassFile.{IsSpelled}
-use Rattle.ja_lib.specs.declared.row.TableRow.{TableRow}
+use Rattle.ja_lib.specs.Content.{Content}
 use Rattle.ja_kinds.specs.declared.behaviour.Behaviour.{Behaviour}
 use Rattle.ja_kinds.specs.declared.effect.Effect.{Effect}
 use Rattle.ja_kinds.specs.declared.state.KindState.{KindState}
@@ -98,7 +98,7 @@ holds None e = absurd (cc)
 holds (Some f) e = record { state = f; is = refl }
 
 -- a method with code, by its kinds
-pub record IsCoded (heads : List ClassHead) (rows : List TableRow) (class : ClassSpelled) (c m : ℕ) (method : Method) : Type 0 where
+pub record IsCoded (heads : List ClassHead) (rows : Content) (class : ClassSpelled) (c m : ℕ) (method : Method) : Type 0 where
   pub kinds : List (Option KindState)
   pub are : AreKindsOf class m kinds
   pub decoded : IsDecoded class.pool are.code
@@ -107,7 +107,7 @@ pub record IsCoded (heads : List ClassHead) (rows : List TableRow) (class : Clas
   pub locals_are : method.locals ≡ are.frame.max_locals
   pub stack_is : method.stack ≡ are.frame.max_stack
 
-module _ (heads : List ClassHead) (rows : List TableRow) (class : ClassSpelled) (spelled : IsSpelled class) (c m : ℕ) (method : Method) (is : IsCoded heads rows class c m method) where
+module _ (heads : List ClassHead) (rows : Content) (class : ClassSpelled) (spelled : IsSpelled class) (c m : ℕ) (method : Method) (is : IsCoded heads rows class c m method) where
   abbrev pub raws : List RawInstr
   raws = is.are.code.instrs
 

@@ -16,7 +16,7 @@ use Rattle.ja_ir.specs.declared.op.CallKind.TheVariants.{Virtual, Special, Stati
 use Rattle.ja_ir.specs.declared.op.Op.{Op}
 use Rattle.ja_ir.specs.declared.op.Op.TheVariants as ops
 use Rattle.ja_ir.specs.Operations.{has_receiver, count_of, arguments, result_count, ends_method}
-use Rattle.ja_lib.specs.declared.row.TableRow.{TableRow}
+use Rattle.ja_lib.specs.Content.{Content}
 use Rattle.ja_kinds.specs.declared.state.KindState.{KindState}
 use Rattle.ja_kinds.specs.declared.frame.Frame.{Frame}
 use Rattle.ja_kinds.specs.declared.effect.Effect.{Effect}
@@ -161,7 +161,7 @@ count_some : (kind : Option Kind) → length (kinds_in kind) ≡ result_count ki
 count_some None = refl
 count_some (Some kind) = refl
 
-module _ (effect_law : OneEffect) (reading : OneMethod) (heads : List ClassHead) (rows : List TableRow) (c : ℕ) (pool : Table) (i : RawInstr)
+module _ (effect_law : OneEffect) (reading : OneMethod) (heads : List ClassHead) (rows : Content) (c : ℕ) (pool : Table) (i : RawInstr)
     (frame : Frame) (f g : KindState) (effect : Effect) (t : turned frame.returns effect f ≡ Some g) where
   -- a behaviour that exchanges values
   swapped : (b : Behaviour) (low high : List Kind) → HasEffect pool i b effect → HasEffect pool i b (Exchanges low high) → Changes (length low) (length high) f g
@@ -242,18 +242,18 @@ module _ (effect_law : OneEffect) (reading : OneMethod) (heads : List ClassHead)
       })
   agree_by shuffles does.GetStatic op p has =
       let ch = swap_changes frame f g effect 0 1 t (get_static_swaps pool i effect has) in
-      accesses ops.GetStatic (static_read (member_in pool i)) op
+      accesses ops.GetStatic (static_read rows.categories (member_in pool i)) op
       (λ x. record { operands = ch.there; locals = tt; height = ch.left }) (λ type. record { operands = ch.there; locals = tt; height = ch.left }) p
   agree_by shuffles does.PutStatic op (fields.static_of_program p) has =
       let ch = swap_changes frame f g effect 1 0 t (put_static_swaps pool i effect has) in
       record { operands = ch.there; locals = tt; height = ch.left }
   agree_by shuffles does.GetField op p has =
       let ch = swap_changes frame f g effect 1 1 t (get_field_swaps pool i effect has) in
-      accesses ops.GetField (member_read (member_in pool i)) op
+      accesses ops.GetField (member_read rows.categories (member_in pool i)) op
       (λ x. record { operands = ch.there; locals = tt; height = ch.left }) (λ type. record { operands = ch.there; locals = tt; height = ch.left }) p
   agree_by shuffles does.PutField op p has =
       let ch = swap_changes frame f g effect 2 0 t (put_field_swaps pool i effect has) in
-      accesses ops.PutField (member_write (member_in pool i)) op
+      accesses ops.PutField (member_write rows.categories (member_in pool i)) op
       (λ x. record { operands = ch.there; locals = tt; height = ch.left }) (λ type. record { operands = ch.there; locals = tt; height = ch.left }) p
   agree_by shuffles does.Invoke op p has = invoked op does.Invoke p has
   agree_by shuffles does.InvokeStatic op p has = invoked_static op p has
@@ -290,7 +290,7 @@ same_behaviour : (o : Option Behaviour) (a b : Behaviour) → o ≡ Some a → o
 same_behaviour o a b e f = let g : Some a ≡ Some b = sym e ∙ f in cc g
 
 module _ (effect_law : OneEffect) (reading : OneMethod) (moved : MovesByOne) (fitting : FittingMoves) where
-  pub operations_agree : (heads : List ClassHead) (rows : List TableRow) (c : ℕ) (pool : Table) (i : RawInstr) (op : Op) (behaviour : Behaviour) (effect : Effect)
+  pub operations_agree : (heads : List ClassHead) (rows : Content) (c : ℕ) (pool : Table) (i : RawInstr) (op : Op) (behaviour : Behaviour) (effect : Effect)
       (frame : Frame) (f g : KindState) → IsOperation heads rows c pool i (Some f) op → Does pool i behaviour effect → accepted frame effect f ≡ Some g → Agrees op f g
   operations_agree heads rows c pool i op behaviour effect frame f g is deed e =
       let t : turned frame.returns effect f ≡ Some g = accepted_turned frame effect f g e in
@@ -319,7 +319,7 @@ loaded_goes heads tag = by_tests (nat_eq tag 8) (nat_eq tag 7)
     by_tests false true = refl
     by_tests false false = refl
 
-module _ (heads : List ClassHead) (rows : List TableRow) (c : ℕ) (pool : Table) (i : RawInstr) (before : Option KindState) where
+module _ (heads : List ClassHead) (rows : Content) (c : ℕ) (pool : Table) (i : RawInstr) (before : Option KindState) where
   ends_by : (b : Behaviour) (op : Op) → OperatesAs heads rows c pool i before b op → ends_method op ≡ not (goes_on b || branches b)
   ends_by does.Nothing op p = ends_as op _ false p refl
   ends_by (does.Constant kind) op p = ends_as op _ false p refl
@@ -350,7 +350,7 @@ module _ (heads : List ClassHead) (rows : List TableRow) (c : ℕ) (pool : Table
   ends_by does.InstanceOf op p = ends_as op _ false p refl
   ends_by does.Monitor op p = ends_as op _ false p refl
 
-pub operations_end : (heads : List ClassHead) (rows : List TableRow) (c : ℕ) (pool : Table) (i : RawInstr) (op : Op) (behaviour : Behaviour) (before : Option KindState)
+pub operations_end : (heads : List ClassHead) (rows : Content) (c : ℕ) (pool : Table) (i : RawInstr) (op : Op) (behaviour : Behaviour) (before : Option KindState)
     → IsOperation heads rows c pool i before op → behaviour_at i.opcode ≡ Some behaviour → ends_method op ≡ not (goes_on behaviour || branches behaviour)
 operations_end heads rows c pool i op behaviour before is e =
     let same : is.behaviour ≡ behaviour = same_behaviour (behaviour_at i.opcode) is.behaviour behaviour is.opcode e in

@@ -9,3 +9,4 @@ pub mod ShuffleAgrees
 pub mod AgreeAll
 pub mod Sound
 pub mod Profiled
+pub mod Categorized

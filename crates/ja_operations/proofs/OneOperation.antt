@@ -14,7 +14,7 @@ use Rattle.ja_ir.specs.declared.op.CallKind.{CallKind}
 use Rattle.ja_ir.specs.declared.op.CallKind.TheVariants.{Virtual, Special, Static, Interface, StaticField, MemberField}
 use Rattle.ja_ir.specs.declared.op.Op.{Op}
 use Rattle.ja_ir.specs.declared.op.Op.TheVariants.{Call}
-use Rattle.ja_lib.specs.declared.row.TableRow.{TableRow}
+use Rattle.ja_lib.specs.Content.{Content}
 use Rattle.ja_hier.specs.declared.field_at.FieldAt.{FieldAt}
 use Rattle.ja_hier.specs.declared.field_at.FieldAt.TheVariants.{Program, Library, Missing}
 use Rattle.ja_hier.specs.declared.skip.Skip.{Skip}
@@ -110,11 +110,11 @@ module _ (heads : List ClassHead) where
         let same : c ≡ d = same_some (class_named heads class) c d e f in
         ap (λ (l : List (List ℕ)). l ++ object_name ∷ []) (types_law c ns ms t (subst (λ (x : ℕ). AreLibraryTypes heads x ms) (sym same) u))
 
-    one_row : (rows : List TableRow) (member : MemberRef) (a b : LibRow) → IsRow heads rows member a → IsRow heads rows member b → a ≡ b
+    one_row : (rows : Content) (member : MemberRef) (a b : LibRow) → IsRow heads rows member a → IsRow heads rows member b → a ≡ b
     one_row rows member a b p q =
         let names : p.first.names ≡ q.first.names = one_tried member.class p.first.names q.first.names p.first.tried q.first.tried in
-        let first : p.found ≡ q.found = p.first.is ∙ ap (λ (l : List (List ℕ)). first_row rows l member.name member.desc) names ∙ sym q.first.is in
-        p.is ∙ ap (λ (o : Option LibRow). unwrap_or o default_row) first ∙ sym q.is
+        let first : p.found ≡ q.found = p.first.is ∙ ap (λ (l : List (List ℕ)). first_row rows.rows l member.name member.desc) names ∙ sym q.first.is in
+        p.is ∙ ap (λ (o : Option LibRow). unwrap_or o (default_row rows.categories)) first ∙ sym q.is
 
   module _ (method_law : (skip : Skip) (name desc : List ℕ) (c : ℕ) (a b : MethodAt) → Finds heads skip name desc c a → Finds heads skip name desc c b → a ≡ b) where
     -- a look-up of a method ends in one place
@@ -172,7 +172,7 @@ same_call : (a b : CallOp) → a.kind ≡ b.kind → a.class ≡ b.class → a.n
 unfolding made
 same_call a b kind class name desc params res row found = same_parts a b kind class name desc params res row found
 
-module _ (heads : List ClassHead) (rows : List TableRow)
+module _ (heads : List ClassHead) (rows : Content)
     (field_law : (name desc : List ℕ) (c : ℕ) (a b : FieldAt) → FindsField heads name desc c a → FindsField heads name desc c b → a ≡ b)
     (types_law : (c : ℕ) (a b : List (List ℕ)) → AreLibraryTypes heads c a → AreLibraryTypes heads c b → a ≡ b)
     (find_law : (skip : Skip) (name desc : List ℕ) (c : ℕ) (a b : MethodAt) → Finds heads skip name desc c a → Finds heads skip name desc c b → a ≡ b)

@@ -18,7 +18,7 @@ use Rattle.ja_ir.specs.declared.op.CallKind.TheVariants.{Virtual, Special, Stati
 use Rattle.ja_ir.specs.declared.op.Op.{Op}
 use Rattle.ja_ir.specs.declared.op.Op.TheVariants as ops
 use Rattle.ja_ir.specs.Whole.{HasTypes}
-use Rattle.ja_lib.specs.declared.row.TableRow.{TableRow}
+use Rattle.ja_lib.specs.Content.{Content}
 use Rattle.ja_supertypes.specs.Supertypes.{class_named, names_of}
 use Rattle.ja_kinds.specs.declared.state.KindState.{KindState}
 use Rattle.ja_kinds.specs.declared.frame.Frame.{Frame}
@@ -106,7 +106,7 @@ module _ (heads : List ClassHead) where
   from_found c member StaticField found at s e = absurd (let both : None ≡ Some at = sym s ∙ e in cc both)
   from_found c member MemberField found at s e = absurd (let both : None ≡ Some at = sym s ∙ e in cc both)
 
-  call_sound : (rows : List TableRow) (c : ℕ) (kind : CallKind) (member : MemberRef) (call : CallOp) → is_of_method kind ≡ true → IsCall heads rows c kind member call
+  call_sound : (rows : Content) (c : ℕ) (kind : CallKind) (member : MemberRef) (call : CallOp) → is_of_method kind ≡ true → IsCall heads rows c kind member call
       → IsSound heads (ops.Call call)
   call_sound rows c kind member call of_method made = (
     method_types call.kind call.desc call.params call.result (ap is_of_method made.kind_is ∙ of_method)
@@ -131,18 +131,18 @@ module _ (heads : List ClassHead) where
   no_answer : {A : Type 0} (at : MethodAt) → None ≡ Some at → A
   no_answer at e = absurd (cc e)
 
-  module _ (rows : List TableRow) (c : ℕ) (pool : Table) (i : RawInstr) (before : Option KindState) where
+  module _ (rows : Content) (c : ℕ) (pool : Table) (i : RawInstr) (before : Option KindState) where
     sound_by : (b : Behaviour) (op : Op) → OperatesAs heads rows c pool i before b op → IsSound heads op
     sound_by does.Loaded op p = sound_as op _ p (loaded_sound heads (tag_at pool (operand_at i 0)))
     sound_by does.GetStatic op p =
-        access_sound (member_in pool i) ops.GetStatic (static_read (member_in pool i)) op (λ x. tt)
+        access_sound (member_in pool i) ops.GetStatic (static_read rows.categories (member_in pool i)) op (λ x. tt)
         (λ type spelled. ((type, spelled, refl, refl), λ at e. no_answer at e)) p
     sound_by does.PutStatic op (fields.static_of_program p) = tt
     sound_by does.GetField op p =
-        access_sound (member_in pool i) ops.GetField (member_read (member_in pool i)) op (λ x. tt)
+        access_sound (member_in pool i) ops.GetField (member_read rows.categories (member_in pool i)) op (λ x. tt)
         (λ type spelled. ((type, spelled, inl (refl, refl)), λ at e. no_answer at e)) p
     sound_by does.PutField op p =
-        access_sound (member_in pool i) ops.PutField (member_write (member_in pool i)) op (λ x. tt)
+        access_sound (member_in pool i) ops.PutField (member_write rows.categories (member_in pool i)) op (λ x. tt)
         (λ type spelled. ((type, spelled, inr (refl, refl)), λ at e. no_answer at e)) p
     sound_by does.Invoke op p = sound_as op _ p.is (call_sound rows c (call_kind i.opcode) (member_in pool i) p.call (kind_of_method i.opcode) p.made)
     sound_by does.InvokeStatic op p = sound_as op _ p.is (call_sound rows c Static (member_in pool i) p.call refl p.made)
@@ -168,7 +168,7 @@ module _ (heads : List ClassHead) where
     sound_by does.InstanceOf op p = sound_as op _ p tt
     sound_by does.Monitor op p = sound_as op _ p tt
 
-pub operations_sound : (heads : List ClassHead) (rows : List TableRow) (c : ℕ) (pool : Table) (i : RawInstr) (op : Op) (before : Option KindState)
+pub operations_sound : (heads : List ClassHead) (rows : Content) (c : ℕ) (pool : Table) (i : RawInstr) (op : Op) (before : Option KindState)
     → IsOperation heads rows c pool i before op → IsSound heads op
 operations_sound heads rows c pool i op before is = sound_by heads rows c pool i before is.behaviour op is.operates
 
@@ -195,7 +195,7 @@ access_stays heads member own foreign op ours (fields.of_library p r) = refl
 write_stays : (heads : List ClassHead) (member : MemberRef) (op : Op) → fields.WritesStatic heads member ops.PutStatic op → is_return op ≡ false
 write_stays heads member op (fields.static_of_program p) = refl
 
-module _ (heads : List ClassHead) (rows : List TableRow) (c : ℕ) (pool : Table) (i : RawInstr) (before : Option KindState) (kind : Option Kind) where
+module _ (heads : List ClassHead) (rows : Content) (c : ℕ) (pool : Table) (i : RawInstr) (before : Option KindState) (kind : Option Kind) where
   contrary : {A : Type 0} (other : Op) → ops.Return kind ≡ other → is_return other ≡ false → A
   contrary other e stays = absurd (let both : true ≡ false = ap is_return e ∙ stays in cc both)
 
@@ -230,7 +230,7 @@ module _ (heads : List ClassHead) (rows : List TableRow) (c : ℕ) (pool : Table
   return_by does.Monitor p = contrary _ p refl
 
 pub returns_agree : ((pool : Table) (i : RawInstr) (behaviour : Behaviour) (effect other : Effect) → HasEffect pool i behaviour effect → HasEffect pool i behaviour other → effect ≡ other)
-    → (heads : List ClassHead) (rows : List TableRow) (c : ℕ) (pool : Table) (i : RawInstr) (kind : Option Kind) (behaviour : Behaviour) (effect : Effect) (frame : Frame) (f g : KindState)
+    → (heads : List ClassHead) (rows : Content) (c : ℕ) (pool : Table) (i : RawInstr) (kind : Option Kind) (behaviour : Behaviour) (effect : Effect) (frame : Frame) (f g : KindState)
     → IsOperation heads rows c pool i (Some f) (ops.Return kind) → Does pool i behaviour effect → accepted frame effect f ≡ Some g → may_return frame.returns kind ≡ true
 returns_agree effect_law heads rows c pool i kind behaviour effect frame f g is deed e =
     let one : Some is.behaviour ≡ Some behaviour = sym is.opcode ∙ deed.opcode in

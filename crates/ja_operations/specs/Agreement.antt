@@ -10,7 +10,7 @@ use Rattle.ja_ir.specs.declared.op.Op.TheVariants as ops
 use Rattle.ja_ir.specs.declared.op.Op.TheVariants.{New, NewArray, Call}
 use Rattle.ja_ir.specs.Operations.{FindsOperands, UsesLocals, height_after, ends_method}
 use Rattle.ja_ir.specs.Whole.{HasTypes}
-use Rattle.ja_lib.specs.declared.row.TableRow.{TableRow}
+use Rattle.ja_lib.specs.Content.{Content, IsCategorized, IsMeaningAbout}
 use Rattle.ja_kinds.specs.declared.state.KindState.{KindState}
 use Rattle.ja_kinds.specs.declared.effect.Effect.{Effect}
 use Rattle.ja_kinds.specs.declared.frame.Frame.{Frame}
@@ -30,21 +30,21 @@ pub record Agrees (op : Op) (f g : KindState) : Type 0 where
 -- where an instruction accepts its state, its operation agrees with the states
 abbrev pub OperationsAgree : Type 0
 OperationsAgree =
-    (heads : List ClassHead) (rows : List TableRow) (c : ℕ) (pool : Table) (i : RawInstr) (op : Op) (behaviour : Behaviour) (effect : Effect)
-    (frame : Frame) (f g : KindState) → IsOperation heads rows c pool i (Some f) op → Does pool i behaviour effect
+    (heads : List ClassHead) (table : Content) (c : ℕ) (pool : Table) (i : RawInstr) (op : Op) (behaviour : Behaviour) (effect : Effect)
+    (frame : Frame) (f g : KindState) → IsOperation heads table c pool i (Some f) op → Does pool i behaviour effect
     → accepted frame effect f ≡ Some g → Agrees op f g
 
 -- an operation ends its method exactly where its instruction leads nowhere
 abbrev pub OperationsEnd : Type 0
 OperationsEnd =
-    (heads : List ClassHead) (rows : List TableRow) (c : ℕ) (pool : Table) (i : RawInstr) (op : Op) (behaviour : Behaviour) (before : Option KindState)
-    → IsOperation heads rows c pool i before op → behaviour_at i.opcode ≡ Some behaviour → ends_method op ≡ not (goes_on behaviour || branches behaviour)
+    (heads : List ClassHead) (table : Content) (c : ℕ) (pool : Table) (i : RawInstr) (op : Op) (behaviour : Behaviour) (before : Option KindState)
+    → IsOperation heads table c pool i before op → behaviour_at i.opcode ≡ Some behaviour → ends_method op ≡ not (goes_on behaviour || branches behaviour)
 
 -- a return that is accepted gives what the frame's method returns
 abbrev pub ReturnsAgree : Type 0
 ReturnsAgree =
-    (heads : List ClassHead) (rows : List TableRow) (c : ℕ) (pool : Table) (i : RawInstr) (kind : Option Kind)
-    (behaviour : Behaviour) (effect : Effect) (frame : Frame) (f g : KindState) → IsOperation heads rows c pool i (Some f) (ops.Return kind)
+    (heads : List ClassHead) (table : Content) (c : ℕ) (pool : Table) (i : RawInstr) (kind : Option Kind)
+    (behaviour : Behaviour) (effect : Effect) (frame : Frame) (f g : KindState) → IsOperation heads table c pool i (Some f) (ops.Return kind)
     → Does pool i behaviour effect → accepted frame effect f ≡ Some g → may_return frame.returns kind ≡ true
 
 -- what an operation names is there: a token is one of the program's, a call's types are those of its descriptor, and what it
@@ -60,5 +60,16 @@ IsSound heads _ = Unit {0}
 -- each operation of an instruction is sound
 abbrev pub OperationsAreSound : Type 0
 OperationsAreSound =
-    (heads : List ClassHead) (rows : List TableRow) (c : ℕ) (pool : Table) (i : RawInstr) (op : Op) (before : Option KindState)
-    → IsOperation heads rows c pool i before op → IsSound heads op
+    (heads : List ClassHead) (table : Content) (c : ℕ) (pool : Table) (i : RawInstr) (op : Op) (before : Option KindState)
+    → IsOperation heads table c pool i before op → IsSound heads op
+
+-- the row of a call is about these categories of marks; other operations have none
+abbrev pub IsRowAbout : (categories : List (List ℕ)) → Op → Type 0
+IsRowAbout categories (Call call) = IsMeaningAbout categories call.row
+IsRowAbout categories _ = Unit {0}
+
+-- the row of each call is about the categories of the table, as the table's own rows are
+abbrev pub RowsAreAbout : Type 0
+RowsAreAbout =
+    (heads : List ClassHead) (table : Content) → IsCategorized table → (c : ℕ) (pool : Table) (i : RawInstr) (op : Op) (before : Option KindState)
+    → IsOperation heads table c pool i before op → IsRowAbout table.categories op

@@ -11,6 +11,7 @@ use Rattle.ja_ir.specs.declared.op.CallOp.{CallOp}
 use Rattle.ja_ir.specs.declared.op.CallKind.TheVariants.{StaticField, MemberField}
 use Rattle.ja_ir.specs.declared.op.Op.{Op}
 use Rattle.ja_ir.specs.declared.op.Op.TheVariants.{Call}
+use Rattle.ja_lib.specs.Content.{all_marks}
 use Rattle.ja_supertypes.specs.Supertypes.{class_named}
 use Rattle.ja_hier.specs.LookUps.{FindsField}
 use Rattle.ja_hier.specs.declared.field_at.FieldAt.{FieldAt}
@@ -23,42 +24,42 @@ pub data IsFieldAt (heads : List ClassHead) (member : MemberRef) : FieldAt → T
       → IsFieldAt heads member at
   in_library : class_named heads member.class ≡ None → IsFieldAt heads member Library
 
--- a read of a static library field gives something new and untainted
-abbrev pub static_read : MemberRef → JavaType → CallOp
-static_read member type = record {
+-- a read of a static library field gives something new and untainted; it says so of each of these categories of marks
+abbrev pub static_read : (categories : List (List ℕ)) → MemberRef → JavaType → CallOp
+static_read categories member type = record {
   kind = StaticField;
   class = member.class;
   name = member.name;
   desc = member.desc;
   params = [];
   result = Some type;
-  row = record { flow = Never; effect = Quiet; result = Fresh; sinks = [] };
+  row = record { flow = Never; effect = Quiet; result = Fresh; sinks = []; marks = all_marks categories; category = 0 };
   found = None;
 }
 
 -- a read of another library field gives something new or something that the object reaches
-abbrev pub member_read : MemberRef → JavaType → CallOp
-member_read member type = record {
+abbrev pub member_read : (categories : List (List ℕ)) → MemberRef → JavaType → CallOp
+member_read categories member type = record {
   kind = MemberField;
   class = member.class;
   name = member.name;
   desc = member.desc;
   params = [];
   result = Some type;
-  row = record { flow = Args; effect = Quiet; result = Any; sinks = [] };
+  row = record { flow = Args; effect = Quiet; result = Any; sinks = []; marks = all_marks categories; category = 0 };
   found = None;
 }
 
 -- a write of another library field puts the value into an absorbing object that the object reaches; there is no result
-abbrev pub member_write : MemberRef → JavaType → CallOp
-member_write member type = record {
+abbrev pub member_write : (categories : List (List ℕ)) → MemberRef → JavaType → CallOp
+member_write categories member type = record {
   kind = MemberField;
   class = member.class;
   name = member.name;
   desc = member.desc;
   params = type ∷ [];
   result = None;
-  row = record { flow = Args; effect = Absorb; result = Fresh; sinks = [] };
+  row = record { flow = Args; effect = Absorb; result = Fresh; sinks = []; marks = all_marks categories; category = 0 };
   found = None;
 }
 

@@ -7,6 +7,7 @@ use Rattle.ja_ir.specs.declared.row.RowFlow.TheVariants.{Args}
 use Rattle.ja_ir.specs.declared.row.RowEffect.TheVariants.{Blend}
 use Rattle.ja_ir.specs.declared.row.RowResult.TheVariants.{Any}
 use Rattle.ja_lib.specs.declared.row.TableRow.{TableRow}
+use Rattle.ja_lib.specs.Content.{Content, all_marks}
 use Rattle.ja_lib.specs.Rows.{row_for}
 use Rattle.ja_supertypes.specs.Supertypes.{class_named, object_name}
 use Rattle.ja_operations.specs.declared.member.MemberRef.{MemberRef}
@@ -19,9 +20,9 @@ pub data AreTried (heads : List ClassHead) (class : List ℕ) : List (List ℕ) 
   of_program : {c : ℕ} {names : List (List ℕ)} → class_named heads class ≡ Some c → AreLibraryTypes heads c names
       → AreTried heads class (names ++ object_name ∷ [])
 
--- what is said of a call of which no row speaks
-abbrev pub default_row : LibRow
-default_row = record { flow = Args; effect = Blend; result = Any; sinks = [] }
+-- what is said of a call of which no row speaks, where these are the categories of marks
+abbrev pub default_row : (categories : List (List ℕ)) → LibRow
+default_row categories = record { flow = Args; effect = Blend; result = Any; sinks = []; marks = all_marks categories; category = 0 }
 
 -- what the first of the names that has a row for the method says
 abbrev pub first_row : List TableRow → (names : List (List ℕ)) → (method desc : List ℕ) → Option LibRow
@@ -35,7 +36,7 @@ pub record IsFirstRow (heads : List ClassHead) (rows : List TableRow) (member : 
   pub is : found ≡ first_row rows names member.name member.desc
 
 -- the row of a call of a method: that one, or the default
-pub record IsRow (heads : List ClassHead) (rows : List TableRow) (member : MemberRef) (row : LibRow) : Type 0 where
+pub record IsRow (heads : List ClassHead) (table : Content) (member : MemberRef) (row : LibRow) : Type 0 where
   pub found : Option LibRow
-  pub first : IsFirstRow heads rows member found
-  pub is : row ≡ unwrap_or found default_row
+  pub first : IsFirstRow heads table.rows member found
+  pub is : row ≡ unwrap_or found (default_row table.categories)

@@ -1,5 +1,5 @@
 ghost use Rattle.std.specs.Prelude.{◌≡◌, ◌<◌, length, IfOk, IfErr};
-ghost use Rattle.ja_base.specs.Descriptor.{IsMethod};
+ghost use Rattle.ja_base.specs.Descriptor.{IsMethod, words_of_all};
 ghost use Rattle.ja_bytes.specs.DescriptorText.{IsMethodText};
 ghost use Rattle.ja_operations.specs.Operation.{IsCall};
 ghost use Rattle.ja_operations.specs.Refused.{RefusesCall, UnlessMemory};
@@ -27,10 +27,11 @@ pub(crate) fn call_kind(opcode: u8) -> CallKind
     }
 }
 
-/// The types of a method whose descriptor is one.
-fn types_of(alloc: Global, desc: &[u8]) -> Result<Desc, Memory>
+/// The types of a method whose descriptor is one (JVM specification 4.3.3).
+pub fn types_of(alloc: Global, desc: &[u8]) -> Result<Desc, Memory>
     requires { IsMethodText desc.now }
-    ensures { IfOk result (λ types. IsMethod desc.now types.params types.result) }
+    ensures spelled { IfOk result (λ types. IsMethod desc.now types.params types.result) }
+    ensures words { IfOk result (λ types. types.words ≡ words_of_all types.params) }
 {
     match method_desc(alloc, desc) {
         Ok(types) => Ok(types),
@@ -50,7 +51,7 @@ pub(crate) fn call_of(
 ) -> Result<CallOp, OpFault>
     requires class { c.0 < length hier.now }
     requires desc { IsMethodText member.desc }
-    ensures ok { IfOk result (IsCall hier.now table.now.rows c.0 kind member) }
+    ensures ok { IfOk result (IsCall hier.now table.now c.0 kind member) }
     ensures refused { IfErr result (UnlessMemory (RefusesCall hier.now c.0 kind member)) }
 {
     check_call(alloc, hier, c, kind, &member)?;

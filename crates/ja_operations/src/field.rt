@@ -9,6 +9,7 @@ use crate::{MemberRef, OpFault};
 use ja_base::{JavaTypes, Memory, Numbers};
 use ja_hier::{FieldAt, Hier};
 use ja_ir::{CallKind, CallOp, LibRow, Op, RowEffect, RowFlow, RowResult};
+use ja_lib::Table;
 use std::alloc::Global;
 
 /// Where the look-up of a field ends.
@@ -22,11 +23,12 @@ fn field_at(hier: &Hier, member: &MemberRef) -> FieldAt
 }
 
 /// A read of a static library field.
-fn static_read(alloc: Global, member: MemberRef) -> Result<CallOp, Memory>
+fn static_read(alloc: Global, table: &Table, member: MemberRef) -> Result<CallOp, Memory>
     requires { IsFieldDesc member.desc }
-    ensures { IfOk result (CallsForeign member (static_read member)) }
+    ensures { IfOk result (CallsForeign member (static_read table.now.categories member)) }
 {
     let found = field_type(alloc, member.desc.bytes())?;
+    let marks = table.all_marks(alloc)?;
     let MemberRef { class, name, desc } = member;
     Ok(CallOp {
         kind: CallKind::StaticField,
@@ -40,17 +42,20 @@ fn static_read(alloc: Global, member: MemberRef) -> Result<CallOp, Memory>
             effect: RowEffect::Quiet,
             result: RowResult::Fresh,
             sinks: Numbers::new(alloc),
+            marks,
+            category: 0,
         },
         found: None,
     })
 }
 
 /// A read of another library field.
-fn member_read(alloc: Global, member: MemberRef) -> Result<CallOp, Memory>
+fn member_read(alloc: Global, table: &Table, member: MemberRef) -> Result<CallOp, Memory>
     requires { IsFieldDesc member.desc }
-    ensures { IfOk result (CallsForeign member (member_read member)) }
+    ensures { IfOk result (CallsForeign member (member_read table.now.categories member)) }
 {
     let found = field_type(alloc, member.desc.bytes())?;
+    let marks = table.all_marks(alloc)?;
     let MemberRef { class, name, desc } = member;
     Ok(CallOp {
         kind: CallKind::MemberField,
@@ -64,19 +69,22 @@ fn member_read(alloc: Global, member: MemberRef) -> Result<CallOp, Memory>
             effect: RowEffect::Quiet,
             result: RowResult::Any,
             sinks: Numbers::new(alloc),
+            marks,
+            category: 0,
         },
         found: None,
     })
 }
 
 /// A write of a library field that is not static.
-fn member_write(alloc: Global, member: MemberRef) -> Result<CallOp, Memory>
+fn member_write(alloc: Global, table: &Table, member: MemberRef) -> Result<CallOp, Memory>
     requires { IsFieldDesc member.desc }
-    ensures { IfOk result (CallsForeign member (member_write member)) }
+    ensures { IfOk result (CallsForeign member (member_write table.now.categories member)) }
 {
     let written = field_type(alloc, member.desc.bytes())?;
     let mut params = JavaTypes::new(alloc);
     params.push(written)?;
+    let marks = table.all_marks(alloc)?;
     let MemberRef { class, name, desc } = member;
     Ok(CallOp {
         kind: CallKind::MemberField,
@@ -90,21 +98,28 @@ fn member_write(alloc: Global, member: MemberRef) -> Result<CallOp, Memory>
             effect: RowEffect::Absorb,
             result: RowResult::Fresh,
             sinks: Numbers::new(alloc),
+            marks,
+            category: 0,
         },
         found: None,
     })
 }
 
 /// What `getstatic` does.
-pub(crate) fn get_static(alloc: Global, hier: &Hier, member: MemberRef) -> Result<Op, OpFault>
+pub(crate) fn get_static(
+    alloc: Global,
+    hier: &Hier,
+    table: &Table,
+    member: MemberRef,
+) -> Result<Op, OpFault>
     requires { IsFieldDesc member.desc }
-    ensures ok { IfOk result (Accesses hier.now member ops.GetStatic (static_read member)) }
+    ensures ok { IfOk result (Accesses hier.now member ops.GetStatic (static_read table.now.categories member)) }
     ensures refused { IfErr result (UnlessMemory (RefusesAccess hier.now member)) }
 {
     match field_at(hier, &member) {
         FieldAt::Program(field) => Ok(Op::GetStatic(field)),
         FieldAt::Library => {
-            let call = static_read(alloc, member)?;
+            let call = static_read(alloc, table, member)?;
             Ok(Op::Call(call))
         }
         FieldAt::Missing => Err(OpFault::NoField),
@@ -112,15 +127,20 @@ pub(crate) fn get_static(alloc: Global, hier: &Hier, member: MemberRef) -> Resul
 }
 
 /// What `getfield` does.
-pub(crate) fn get_field(alloc: Global, hier: &Hier, member: MemberRef) -> Result<Op, OpFault>
+pub(crate) fn get_field(
+    alloc: Global,
+    hier: &Hier,
+    table: &Table,
+    member: MemberRef,
+) -> Result<Op, OpFault>
     requires { IsFieldDesc member.desc }
-    ensures ok { IfOk result (Accesses hier.now member ops.GetField (member_read member)) }
+    ensures ok { IfOk result (Accesses hier.now member ops.GetField (member_read table.now.categories member)) }
     ensures refused { IfErr result (UnlessMemory (RefusesAccess hier.now member)) }
 {
     match field_at(hier, &member) {
         FieldAt::Program(field) => Ok(Op::GetField(field)),
         FieldAt::Library => {
-            let call = member_read(alloc, member)?;
+            let call = member_read(alloc, table, member)?;
             Ok(Op::Call(call))
         }
         FieldAt::Missing => Err(OpFault::NoField),
@@ -128,15 +148,20 @@ pub(crate) fn get_field(alloc: Global, hier: &Hier, member: MemberRef) -> Result
 }
 
 /// What `putfield` does.
-pub(crate) fn put_field(alloc: Global, hier: &Hier, member: MemberRef) -> Result<Op, OpFault>
+pub(crate) fn put_field(
+    alloc: Global,
+    hier: &Hier,
+    table: &Table,
+    member: MemberRef,
+) -> Result<Op, OpFault>
     requires { IsFieldDesc member.desc }
-    ensures ok { IfOk result (Accesses hier.now member ops.PutField (member_write member)) }
+    ensures ok { IfOk result (Accesses hier.now member ops.PutField (member_write table.now.categories member)) }
     ensures refused { IfErr result (UnlessMemory (RefusesAccess hier.now member)) }
 {
     match field_at(hier, &member) {
         FieldAt::Program(field) => Ok(Op::PutField(field)),
         FieldAt::Library => {
-            let call = member_write(alloc, member)?;
+            let call = member_write(alloc, table, member)?;
             Ok(Op::Call(call))
         }
         FieldAt::Missing => Err(OpFault::NoField),

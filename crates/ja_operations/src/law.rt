@@ -7,11 +7,11 @@ ghost use Rattle.ja_class.specs.Meaning.{ClassSpelled};
 ghost use Rattle.ja_class.specs.ClassFile.{IsSpelled};
 ghost use Rattle.ja_ir.specs.declared.head.ClassHead.{ClassHead};
 ghost use Rattle.ja_ir.specs.declared.op.Op.{Op};
-ghost use Rattle.ja_lib.specs.declared.row.TableRow.{TableRow};
+ghost use Rattle.ja_lib.specs.Content.{Content};
 ghost use Rattle.ja_kinds.specs.Effect.{IsOneOf};
 ghost use Rattle.ja_kinds.specs.declared.state.KindState.{KindState};
 ghost use Rattle.ja_operations.specs.declared.fault.OpFault.{OpFault};
-ghost use Rattle.ja_operations.specs.Agreement.{OperationsAgree, OperationsEnd, ReturnsAgree, OperationsAreSound};
+ghost use Rattle.ja_operations.specs.Agreement.{OperationsAgree, OperationsEnd, ReturnsAgree, OperationsAreSound, RowsAreAbout};
 ghost use Rattle.ja_operations.specs.Operation.{IsOperation};
 ghost use Rattle.ja_operations.specs.Profile.{IsProfiled};
 ghost use Rattle.ja_operations.specs.Refused.{IsRefusedFor};
@@ -23,10 +23,10 @@ use ja_supertypes::law_one_list;
 
 /// An instruction has at most one operation and at most one refusal, and never both.
 pub fn law_one_operation()
-    ensures one_operation { (heads : List ClassHead) (rows : List TableRow) (c : ℕ) (pool : Table) (i : RawInstr) (before : Option KindState) (op other : Op) →
-        IsOperation heads rows c pool i before op → IsOperation heads rows c pool i before other → op ≡ other }
-    ensures not_both { (heads : List ClassHead) (rows : List TableRow) (c : ℕ) (pool : Table) (i : RawInstr) (before : Option KindState) (op : Op) (fault : OpFault) →
-        IsOperation heads rows c pool i before op → IsRefusedFor heads c pool i fault → ⊥ }
+    ensures one_operation { (heads : List ClassHead) (table : Content) (c : ℕ) (pool : Table) (i : RawInstr) (before : Option KindState) (op other : Op) →
+        IsOperation heads table c pool i before op → IsOperation heads table c pool i before other → op ≡ other }
+    ensures not_both { (heads : List ClassHead) (table : Content) (c : ℕ) (pool : Table) (i : RawInstr) (before : Option KindState) (op : Op) (fault : OpFault) →
+        IsOperation heads table c pool i before op → IsRefusedFor heads c pool i fault → ⊥ }
     ensures one_refusal { (heads : List ClassHead) (c : ℕ) (pool : Table) (i : RawInstr) (fault other : OpFault) →
         IsRefusedFor heads c pool i fault → IsRefusedFor heads c pool i other → fault ≡ other }
 {
@@ -36,12 +36,14 @@ pub fn law_one_operation()
 }
 
 /// What an operation takes, pushes and uses is what the kinds say of its instruction, an operation ends its
-/// method exactly where its instruction leads nowhere, and what an operation names is there.
+/// method exactly where its instruction leads nowhere, what an operation names is there, and the row of a
+/// call is about the categories of the table.
 pub fn law_operations_agree()
     ensures agree { OperationsAgree }
     ensures end { OperationsEnd }
     ensures returns { ReturnsAgree }
     ensures sound { OperationsAreSound }
+    ensures about { RowsAreAbout }
 {
     law_one_reading();
     law_one_effect();

@@ -15,6 +15,7 @@ mod site;
 mod target;
 mod token;
 
+pub use call::types_of;
 pub use fault::OpFault;
 pub use law::{law_each_is_profiled, law_one_operation, law_operations_agree};
 pub use member::MemberRef;

@@ -72,15 +72,15 @@ fn by_member(
     requires class { c.0 < length hier.now }
     requires names { names_member behaviour ≡ true }
     requires suits { Suits pool.now instr.now behaviour }
-    ensures ok { IfOk result (λ op. (before : Option KindState) → OperatesAs hier.now table.now.rows c.0 pool.now instr.now before behaviour op) }
+    ensures ok { IfOk result (λ op. (before : Option KindState) → OperatesAs hier.now table.now c.0 pool.now instr.now before behaviour op) }
     ensures refused { IfErr result (UnlessMemory (Refuses hier.now c.0 pool.now instr.now behaviour)) }
 {
     let member = member_named(alloc, pool, instr)?;
     match behaviour {
-        Behaviour::GetStatic => get_static(alloc, hier, member),
+        Behaviour::GetStatic => get_static(alloc, hier, table, member),
         Behaviour::PutStatic => put_static(hier, &member),
-        Behaviour::GetField => get_field(alloc, hier, member),
-        Behaviour::PutField => put_field(alloc, hier, member),
+        Behaviour::GetField => get_field(alloc, hier, table, member),
+        Behaviour::PutField => put_field(alloc, hier, table, member),
         Behaviour::Invoke => invoke(alloc, hier, table, c, call_kind(instr.opcode), member),
         Behaviour::InvokeStatic => invoke(alloc, hier, table, c, CallKind::Static, member),
         _ => unreachable!(),
@@ -98,7 +98,7 @@ fn invoke(
 ) -> Result<Op, OpFault>
     requires class { c.0 < length hier.now }
     requires desc { IsMethodText member.desc }
-    ensures ok { IfOk result (Calls hier.now table.now.rows c.0 kind member) }
+    ensures ok { IfOk result (Calls hier.now table.now c.0 kind member) }
     ensures refused { IfErr result (UnlessMemory (RefusesCall hier.now c.0 kind member)) }
 {
     match call_of(alloc, hier, table, c, kind, member) {
@@ -176,7 +176,7 @@ fn operates_as(
     requires class { c.0 < length hier.now }
     requires few { length hier.now ≤ 2 ^ 26 }
     requires suits { Suits pool.now instr.now behaviour }
-    ensures ok { IfOk result (OperatesAs hier.now table.now.rows c.0 pool.now instr.now (option_copied before.entry) behaviour) }
+    ensures ok { IfOk result (OperatesAs hier.now table.now c.0 pool.now instr.now (option_copied before.entry) behaviour) }
     ensures refused { IfErr result (UnlessMemory (Refuses hier.now c.0 pool.now instr.now behaviour)) }
 {
     match behaviour {
@@ -236,7 +236,7 @@ pub fn operation_of(
     requires class { c.0 < length hier.now }
     requires few { length hier.now ≤ 2 ^ 26 }
     requires profiled { IsProfiled pool.now instr.now }
-    ensures ok { IfOk result (IsOperation hier.now table.now.rows c.0 pool.now instr.now (option_copied before.entry)) }
+    ensures ok { IfOk result (IsOperation hier.now table.now c.0 pool.now instr.now (option_copied before.entry)) }
     ensures refused { IfErr result (UnlessMemory (IsRefusedFor hier.now c.0 pool.now instr.now)) }
 {
     match behaviour_of(instr.opcode) {

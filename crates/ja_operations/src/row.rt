@@ -3,22 +3,25 @@ ghost use Rattle.ja_supertypes.specs.Supertypes.{object_name};
 ghost use Rattle.ja_operations.specs.Rows.{default_row, first_row, IsFirstRow, IsRow};
 
 use crate::MemberRef;
-use ja_base::{Memory, Name, Numbers};
+use ja_base::{Flags, Memory, Name, Numbers};
 use ja_hier::Hier;
 use ja_ir::{LibRow, RowEffect, RowFlow, RowResult};
 use ja_lib::Table;
 use std::alloc::Global;
 
-/// What is said of a call of which no row speaks.
-fn default_row(alloc: Global) -> LibRow
-    ensures { result ≡ default_row }
+/// What is said of a call of which no row of the table speaks.
+fn default_row(alloc: Global, table: &Table) -> Result<LibRow, Memory>
+    ensures { IfOk result (λ row. row ≡ default_row table.now.categories) }
 {
-    LibRow {
+    let marks = table.all_marks(alloc)?;
+    Ok(LibRow {
         flow: RowFlow::Args,
         effect: RowEffect::Blend,
         result: RowResult::Any,
         sinks: Numbers::new(alloc),
-    }
+        marks,
+        category: 0,
+    })
 }
 
 /// A row with the same content.
@@ -26,11 +29,14 @@ fn copy_row(alloc: Global, row: &LibRow) -> Result<LibRow, Memory>
     ensures { IfOk result (λ copy. copy ≡ row.now) }
 {
     let sinks = Vec::from_slice(alloc, row.sinks.as_slice())?;
+    let marks = Vec::from_slice(alloc, row.marks.as_slice())?;
     Ok(LibRow {
         flow: row.flow,
         effect: row.effect,
         result: row.result,
         sinks: Numbers::from_vec(sinks),
+        marks: Flags::from_vec(marks),
+        category: row.category,
     })
 }
 
@@ -88,11 +94,11 @@ pub(crate) fn row_of(
     table: &Table,
     member: &MemberRef,
 ) -> Result<LibRow, Memory>
-    ensures { IfOk result (IsRow hier.now table.now.rows member.now) }
+    ensures { IfOk result (IsRow hier.now table.now member.now) }
 {
     let object = Name::of(alloc, b"java/lang/Object")?;
     match tried_row(hier, table, &object, member) {
         Some(row) => copy_row(alloc, row),
-        None => Ok(default_row(alloc)),
+        None => default_row(alloc, table),
     }
 }

@@ -58,6 +58,7 @@ impl From<TableFault> for CaseFault {
         match fault {
             TableFault::Text => CaseFault::Refused(Refusal::TableText),
             TableFault::UnknownKey => CaseFault::Refused(Refusal::TableKey),
+            TableFault::BadCategory => CaseFault::Refused(Refusal::TableCategory),
             TableFault::BadRow { row } => CaseFault::Refused(Refusal::TableRow { row }),
             TableFault::BadEntry { entry } => CaseFault::Refused(Refusal::TableEntry { entry }),
             TableFault::Memory => CaseFault::Memory,

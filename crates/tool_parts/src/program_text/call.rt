@@ -1,12 +1,13 @@
 //! A call as text.
-use crate::program_text::shown::{Shown, Spaced, TargetText, TypeText, separator};
+use crate::program_text::shown::{MarksText, Shown, Spaced, TargetText, TypeText, separator};
 use ja_base::{JavaType, JavaTypes};
 use ja_ir::{CallKind, CallOp, LibRow, MethodAt, RowEffect, RowFlow, RowResult};
 use std::fmt;
 
-/// A call: what the instruction names, its row, and what it finds.
+/// A call: what the instruction names, its row, and what it finds; and whether the program names categories
+/// of marks.
 #[derive(Clone, Copy)]
-pub struct CallText<'a>(pub &'a CallOp);
+pub struct CallText<'a>(pub &'a CallOp, pub bool);
 
 impl fmt::Display for CallText<'_> {
     fn fmt<W: fmt::Write>(&self, f: &mut fmt::Formatter<W>) -> fmt::Result {
@@ -25,7 +26,12 @@ impl fmt::Display for CallText<'_> {
             TypesText(&call.params),
             ResultText(&call.result)
         )?;
-        write!(f, " {} found {}", RowText(&call.row), FoundText(call.found))
+        write!(f, " {}", RowText(&call.row))?;
+        if self.1 {
+            write!(f, " {}", MarksText(call.row.marks.as_slice()))?;
+            write!(f, " category {}", call.row.category)?;
+        }
+        write!(f, " found {}", FoundText(call.found))
     }
 }
 

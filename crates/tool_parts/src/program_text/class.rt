@@ -1,6 +1,6 @@
 //! The lines of classes and fields.
 use crate::program_text::shown::{Shown, TargetText, separator};
-use ja_ir::{ClassIds, ClassInfo, Field, Selection};
+use ja_ir::{ClassIds, ClassInfo, Field, MethodIds, Selection};
 use std::alloc::AllocError;
 use std::fmt;
 
@@ -17,12 +17,25 @@ impl fmt::Display for ClassIdsText<'_> {
     }
 }
 
+/// Methods by their numbers, parted by blanks.
+#[derive(Clone, Copy)]
+struct MethodIdsText<'a>(&'a MethodIds);
+
+impl fmt::Display for MethodIdsText<'_> {
+    fn fmt<W: fmt::Write>(&self, f: &mut fmt::Formatter<W>) -> fmt::Result {
+        for (at, id) in self.0.as_slice().iter().enumerate() {
+            write!(f, "{}{}", separator(at), id.0)?;
+        }
+        Ok(())
+    }
+}
+
 /// Whether library calls may put things into objects of a class.
 fn absorbing_word(absorbing: bool) -> &'static str {
     if absorbing { "absorbing" } else { "plain" }
 }
 
-/// Adds the line of a class, and those of its selections.
+/// Adds the line of a class, that of its class initialisers, where it has some, and those of its selections.
 pub fn add_class(out: &mut String, number: usize, class: &ClassInfo) -> Result<(), AllocError> {
     writeln!(
         out,
@@ -33,6 +46,9 @@ pub fn add_class(out: &mut String, number: usize, class: &ClassInfo) -> Result<(
         absorbing_word(class.absorbing),
         ClassIdsText(&class.supers)
     )?;
+    if !class.inits.is_empty() {
+        writeln!(out, "  inits [{}]", MethodIdsText(&class.inits))?;
+    }
     for selection in class.selections.as_slice() {
         add_selection(out, selection)?;
     }

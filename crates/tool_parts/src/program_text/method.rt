@@ -6,12 +6,14 @@ use ja_ir::{Catch, Handler, Instr, Method};
 use std::alloc::AllocError;
 use std::fmt;
 
-/// Adds the line of a method of a class of this name, and those of its instructions and handlers.
+/// Adds the line of a method of a class of this name, and those of its instructions and handlers, with marks
+/// where the program names categories.
 pub fn add_method(
     out: &mut String,
     number: usize,
     class: &Name,
     method: &Method,
+    named: bool,
 ) -> Result<(), AllocError> {
     writeln!(
         out,
@@ -24,7 +26,7 @@ pub fn add_method(
         method.stack
     )?;
     for instr in method.code.as_slice() {
-        add_instr(out, instr)?;
+        add_instr(out, instr, named)?;
     }
     for handler in method.handlers.as_slice() {
         add_handler(out, handler)?;
@@ -47,12 +49,12 @@ impl fmt::Display for HeightText<'_> {
 }
 
 /// Adds the line of an instruction.
-fn add_instr(out: &mut String, instr: &Instr) -> Result<(), AllocError> {
+fn add_instr(out: &mut String, instr: &Instr, named: bool) -> Result<(), AllocError> {
     writeln!(
         out,
         "  {} {} next [{}] {}",
         instr.pc,
-        OpText(&instr.op),
+        OpText(&instr.op, named),
         Spaced(instr.next.as_slice()),
         HeightText(instr)
     )

@@ -5,9 +5,9 @@ use ja_base::Kind;
 use ja_ir::Op;
 use std::fmt;
 
-/// An operation: its word and its parts.
+/// An operation: its word and its parts, and whether the program names categories of marks.
 #[derive(Clone, Copy)]
-pub struct OpText<'a>(pub &'a Op);
+pub struct OpText<'a>(pub &'a Op, pub bool);
 
 impl fmt::Display for OpText<'_> {
     fn fmt<W: fmt::Write>(&self, f: &mut fmt::Formatter<W>) -> fmt::Result {
@@ -37,7 +37,7 @@ impl fmt::Display for OpText<'_> {
             Op::PutStatic(field) => write!(f, "putstatic {}", field.0),
             Op::GetField(field) => write!(f, "getfield {}", field.0),
             Op::PutField(field) => write!(f, "putfield {}", field.0),
-            Op::Call(call) => write!(f, "{}", CallText(call)),
+            Op::Call(call) => write!(f, "{}", CallText(call, self.1)),
             Op::NewArray { last, dimensions } => write!(f, "newarray {} {dimensions}", last.0),
             Op::ArrLen => f.write_str("arrlen"),
             Op::Throw => f.write_str("throw"),

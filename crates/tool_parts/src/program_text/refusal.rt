@@ -30,6 +30,7 @@ fn refusal_word(refusal: &Refusal) -> &'static str {
         Refusal::TableKey => "TableKey",
         Refusal::TableRow { .. } => "TableRow",
         Refusal::TableEntry { .. } => "TableEntry",
+        Refusal::TableCategory => "TableCategory",
         Refusal::End { .. } => "End",
         Refusal::BadMagic { .. } => "BadMagic",
         Refusal::BadVersion { .. } => "BadVersion",
@@ -78,7 +79,7 @@ impl fmt::Display for FieldsText<'_> {
             | Refusal::Duplicate { file }
             | Refusal::Cycle { file } => write!(f, " {}", Shown(file)),
             Refusal::TooManyFiles { count } => write!(f, " count {count}"),
-            Refusal::TableText | Refusal::TableKey => Ok(()),
+            Refusal::TableText | Refusal::TableKey | Refusal::TableCategory => Ok(()),
             Refusal::TableRow { row } => write!(f, " row {row}"),
             Refusal::TableEntry { entry } => write!(f, " entry {entry}"),
             Refusal::End { file, at }

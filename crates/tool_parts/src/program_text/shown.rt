@@ -27,6 +27,24 @@ impl fmt::Display for Spaced<'_> {
     }
 }
 
+/// Of which categories there are marks, by their numbers.
+#[derive(Clone, Copy)]
+pub struct MarksText<'a>(pub &'a [bool]);
+
+impl fmt::Display for MarksText<'_> {
+    fn fmt<W: fmt::Write>(&self, f: &mut fmt::Formatter<W>) -> fmt::Result {
+        f.write_str("marks [")?;
+        let mut count: usize = 0;
+        for (category, marked) in self.0.iter().enumerate() {
+            if *marked {
+                write!(f, "{}{category}", separator(count))?;
+                count = 1;
+            }
+        }
+        f.write_str("]")
+    }
+}
+
 /// What stands before the item at a place: a blank, but nothing before the first.
 pub fn separator(at: usize) -> &'static str {
     if at == 0 { "" } else { " " }

@@ -14,5 +14,5 @@ returns-clause-not_both c = λ heads rows cl pool i before op fault p q.
 
 pub returns-clause-one_refusal : goal.returns-clause-one_refusal
 returns-clause-one_refusal c = λ heads cl pool i fault other p q.
-    one_refusal heads [] (c.law_one_answer.ensures.field heads) (c.law_one_list.ensures.types heads)
+    one_refusal heads (record { categories = []; rows = []; entries = [] }) (c.law_one_answer.ensures.field heads) (c.law_one_list.ensures.types heads)
     (c.law_one_answer.ensures.method heads) c.law_one_reading.ensures.field c.law_one_reading.ensures.method cl pool i fault other p q

@@ -1,4 +1,5 @@
 use Rattle.ja_operations.proofs.AgreeAll.{operations_agree, operations_end}
+use Rattle.ja_operations.proofs.Categorized.{rows_are_about}
 use Rattle.ja_operations.proofs.Sound.{operations_sound, returns_agree}
 use Rattle.ja_operations.proofs.law.law_operations_agree.Goals as goal
 
@@ -13,3 +14,6 @@ returns-clause-returns c = returns_agree c.law_one_effect.ensures
 
 pub returns-clause-sound : goal.returns-clause-sound
 returns-clause-sound c = operations_sound
+
+pub returns-clause-about : goal.returns-clause-about
+returns-clause-about c = rows_are_about
