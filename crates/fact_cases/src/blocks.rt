@@ -2,10 +2,10 @@
 ghost use Rattle.std.specs.Prelude.{◌≡◌, ◌+◌, ◌<◌, ◌≤◌, All, IfOk, OnOk, length};
 ghost use Rattle.ja_ir.specs.Blocks.{StaysInside};
 
+use ja_base::{ClassId, Desc, Kind, Memory, Name, Seq};
 use ja_ir::{
     CallKind, CallOp, Instr, Instrs, LibRow, Method, Op, RowEffect, RowFlow, RowResult, blocks_of,
 };
-use ja_base::{ClassId, Desc, Kind, Memory, Name, Seq};
 use std::alloc::Global;
 
 /// A static call of a method of two parameters.

@@ -2,9 +2,9 @@
 ghost use Rattle.std.specs.Prelude.{◌≡◌, [], IfOk, length};
 ghost use Rattle.ja_machine.specs.Reach.{IsClosed};
 
-use ja_machine::{Heap, Object, Value, reaches, tainted};
 use ja_base::{Memory, Numbers, Seq};
 use ja_ir::Token;
+use ja_machine::{Heap, Object, Value, reaches, tainted};
 use std::alloc::Global;
 
 /// An object without fields.

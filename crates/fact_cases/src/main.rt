@@ -37,7 +37,8 @@ fn main(rt: HostRuntime) -> io::Result<()> {
     for told in [small_text(alloc, text.as_str()), facts_text(alloc)] {
         print!(rt;
             "{}",
-            told.as_ref().map_or("out of memory\n", |text| text.as_str())
+            told.as_ref()
+                .map_or("out of memory\n", |text| text.as_str())
         )?;
     }
     Ok(())

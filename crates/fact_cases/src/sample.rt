@@ -254,7 +254,5 @@ pub fn sample(alloc: Global) -> Result<Program, Memory>
     let entries = entries(alloc)?;
     let sites = sites(alloc)?;
     let categories = Seq::new(alloc);
-    Ok(Program::new(
-        classes, methods, fields, entries, sites, categories,
-    ))
+    Ok(Program::new(classes, methods, fields, entries, sites, categories))
 }
