@@ -54,20 +54,22 @@ module _ (names : List (List ℕ)) where
 
   found_about : (test : TableRow → Bool) (rows : List TableRow) → All About rows → (row : LibRow) → option_map (λ (r : TableRow). r.meaning) (find test rows) ≡ Some row → IsMeaningAbout names row
   found_about test [] all row e = absurd (cc e)
-  found_about test (r ∷ rows) all row e = by (test r) e
+  found_about test (r ∷ rows) all row e = by (test r) e (found_about test rows (All-tail About r rows all) row)
     where
-      by : (b : Bool) → option_map (λ (x : TableRow). x.meaning) (cond b (Some r) (find test rows)) ≡ Some row → IsMeaningAbout names row
-      by true f = subst (λ (x : LibRow). IsMeaningAbout names x) (same_Some r.meaning row f) (All-head About r rows all)
-      by false f = found_about test rows (All-tail About r rows all) row f
+      by : (b : Bool) → option_map (λ (x : TableRow). x.meaning) (cond b (Some r) (find test rows)) ≡ Some row
+          → (option_map (λ (x : TableRow). x.meaning) (find test rows) ≡ Some row → IsMeaningAbout names row) → IsMeaningAbout names row
+      by true f rest = subst (λ (x : LibRow). IsMeaningAbout names x) (same_Some r.meaning row f) (All-head About r rows all)
+      by false f rest = rest f
 
   first_about : (rows : List TableRow) → All About rows → (classes : List (List ℕ)) (method desc : List ℕ) (row : LibRow) → first_row rows classes method desc ≡ Some row
       → IsMeaningAbout names row
   first_about rows all [] method desc row e = absurd (cc e)
-  first_about rows all (class ∷ classes) method desc row e = by (row_for rows class method desc) refl e
+  first_about rows all (class ∷ classes) method desc row e = by (row_for rows class method desc) refl e (first_about rows all classes method desc row)
     where
-      by : (o : Option LibRow) → row_for rows class method desc ≡ o → option_or o (first_row rows classes method desc) ≡ Some row → IsMeaningAbout names row
-      by None f g = first_about rows all classes method desc row g
-      by (Some r) f g = found_about (fits class method desc) rows all row (f ∙ g)
+      by : (o : Option LibRow) → row_for rows class method desc ≡ o → option_or o (first_row rows classes method desc) ≡ Some row
+          → (first_row rows classes method desc ≡ Some row → IsMeaningAbout names row) → IsMeaningAbout names row
+      by None f g rest = rest g
+      by (Some r) f g rest = found_about (fits class method desc) rows all row (f ∙ g)
 
 -- the row of a call of a method
 row_about : (heads : List ClassHead) (table : Content) → IsCategorized table → (member : MemberRef) (row : LibRow) → IsRow heads table member row → IsMeaningAbout table.categories row
