@@ -280,9 +280,9 @@ module _ (agree : OperationsAgree) (ends : OperationsEnd) (returns : ReturnsAgre
 
 about-by : RowsAreAbout → (heads : List ClassHead) (rows : Content) → IsCategorized rows → (class : ClassSpelled) → IsSpelled class → (c m : ℕ) (method : Method) (is : IsMethodOf heads rows class c m method)
     → (o : Option Code) → is.body.code ≡ o → All (λ (instr : Instr). IsRowAbout rows.categories instr.op) method.code
-about-by about heads rows categorized class spelled c m method is None e k d lt =
+about-by about heads rows categorized class spelled c m method is None e =
     let has : (method.code ≡ []) × (method.handlers ≡ []) = subst (λ (o : Option Code). HasContent heads rows class c m o method.code method.handlers) e is.content in
-    absurd (omega (arith, lt, ap length has.0))
+    λ k d lt. absurd (omega (arith, lt, ap length has.0))
 about-by about heads rows categorized class spelled c m method is (Some code) e =
     all-about heads rows class spelled c m method (coded-of heads rows class spelled c m method is code e) about categorized
 
