@@ -1,5 +1,5 @@
 -- Class initialisers, one method and one class after another; and that they are methods of the program.
-use Rattle.std.proofs.Common.{◌≡◌, ℕ, zero, suc, ◌+◌, ◌<◌, ◌≤◌, ◌^◌, Bool, true, false, List, [], ◌∷◌, ◌++◌, length, map, take, get_or, refl, sym, ap, ◌∙◌, subst, append_assoc, append-nil, arith}
+use Rattle.std.proofs.Common.{◌≡◌, ℕ, zero, suc, ◌+◌, ◌<◌, ◌≤◌, ◌^◌, Bool, true, false, List, [], ◌∷◌, ◌++◌, length, take, get_or, refl, sym, ap, ◌∙◌, subst, append_assoc, append-nil, arith}
 use Rattle.std.specs.Prelude.{Some, All, slice_get, sum_by, if◌then◌else◌}
 use Rattle.std.proofs.lemmas.Option.{get_or_from_slice_get, slice_get_within}
 use Rattle.std.proofs.lemmas.List.Sums.{sum_by_more_le}
@@ -67,7 +67,7 @@ of_more heads classes k class lt read =
 
 -- ---- what holds of each
 
-from_each : (P : MethodId → Type 0) (first : ℕ) (methods : List HeadMethod)
+pub from_each : (P : MethodId → Type 0) (first : ℕ) (methods : List HeadMethod)
     → ((k : ℕ) (method : HeadMethod) → slice_get methods k ≡ Some method → is_initializer method ≡ true → P (record { 0 = first + k })) → All P (initializers_from first methods)
 from_each P first [] each = All-nil P
 from_each P first (x ∷ methods) each =

@@ -1,7 +1,8 @@
 -- One step of the loops over classes and their members.
-use Rattle.std.proofs.Common.{◌≡◌, ℕ, suc, ◌+◌, ◌<◌, inl, inr, Bool, true, false, not, ◌==◌, List, [], ◌∷◌, ◌++◌, length, take, get_or, map, sym, ap, ◌∙◌, arith, append_assoc}
+use Rattle.std.proofs.Common.{◌≡◌, ℕ, zero, suc, ◌+◌, ◌<◌, inl, inr, Bool, true, false, not, ◌==◌, List, [], ◌∷◌, ◌++◌, length, take, get_or, map, sym, ap, ◌∙◌, subst, arith, append_assoc}
 use Rattle.std.specs.Prelude.{Some, slice_get, if◌then◌else◌}
 use Rattle.std.proofs.lemmas.Bool.{cases_Bool}
+use Rattle.std.proofs.lemmas.Option.{same_Some, slice_get_within}
 use Rattle.std.proofs.lemmas.List.{append-nil, take_more, map_more, length-take-le}
 use Rattle.std.proofs.lemmas.List.Elements.{filter-append}
 use borrow.Author.Tests.{eqb-true}
@@ -75,3 +76,13 @@ beside-other heads c d head other found =
 -- the first class
 pub own-signatures : (heads : List ClassHead) (c : ℕ) (head : ClassHead) → slice_get heads c ≡ Some head → signatures_of heads (own_first c []) ≡ map signature_of head.methods
 own-signatures heads c head found = append-nil (signatures_in heads c) ∙ ap (λ o. map signature_of (methods_of o)) found
+
+-- ---- what holds at each place
+
+-- it holds at each place of a list with one more item
+pub pushed : {A : Type 0} (P : ℕ → A → Type 0) (xs : List A) (x : A) → ((c : ℕ) (a : A) → slice_get xs c ≡ Some a → P c a) → P (length xs) x
+    → (c : ℕ) (a : A) → slice_get (xs ++ x ∷ []) c ≡ Some a → P c a
+pushed P [] x each last zero a e = subst (P zero) (same_Some x a e) last
+pushed P [] x each last (suc c) a e = absurd (omega (arith, slice_get_within (x ∷ []) (suc c) a e))
+pushed P (y ∷ xs) x each last zero a e = each zero a e
+pushed P (y ∷ xs) x each last (suc c) a e = pushed (λ n b. P (suc n) b) xs x (λ n b at. each (suc n) b at) last c a e
