@@ -5,12 +5,18 @@
 #![tactic(auto)]
 
 mod blocks;
+mod classes;
 mod heap;
 mod sample;
 mod small;
 mod tables;
 
+ghost use Rattle.std.specs.Prelude.{◌≡◌};
+ghost use Rattle.ja_ir.specs.Sample.{sample};
+
 use ja_base::Memory;
+use ja_ir::Program;
+use sample::sample;
 use small::small_text;
 use std::alloc::Global;
 use std::io;
@@ -22,13 +28,33 @@ fn facts_text(alloc: Global) -> Result<String, Memory> {
     heap::add_heap(&mut out, alloc)?;
     tables::add_rows(&mut out, alloc)?;
     tables::add_variables(&mut out)?;
-    tables::add_class_sets(&mut out, alloc)?;
-    tables::add_graph(&mut out, alloc)?;
-    tables::add_effects(&mut out, alloc)?;
-    tables::add_pairs(&mut out, alloc)?;
-    tables::add_reach(&mut out, alloc)?;
-    tables::add_holds(&mut out, alloc)?;
+    let program = sample(alloc)?;
+    add_sets(&mut out, alloc, &program)?;
+    add_heaps(&mut out, alloc, &program)?;
     Ok(out)
+}
+
+/// Adds what the class sets and the call graph say.
+fn add_sets(out: &mut String, alloc: Global, program: &Program) -> Result<(), Memory>
+    requires { program.now ≡ sample }
+{
+    classes::add_code(out, alloc, program)?;
+    classes::add_methods(out, alloc, program)?;
+    classes::add_objects(out, alloc, program)?;
+    tables::add_reached(out, alloc, program)?;
+    tables::add_calls(out, alloc, program)
+}
+
+/// Adds what the effects, the pairs and the held cells are.
+fn add_heaps(out: &mut String, alloc: Global, program: &Program) -> Result<(), Memory>
+    requires { program.now ≡ sample }
+{
+    tables::add_effects(out, alloc, program)?;
+    tables::add_pairs(out, alloc, program)?;
+    tables::add_small_pairs(out, alloc, program)?;
+    tables::add_reach(out, alloc, program)?;
+    tables::add_held(out, alloc, program)?;
+    tables::add_field_held(out, alloc, program)
 }
 
 fn main(rt: HostRuntime) -> io::Result<()> {

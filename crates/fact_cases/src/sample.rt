@@ -12,6 +12,18 @@ use ja_ir::{
 };
 use std::alloc::Global;
 
+/// The static method of four instructions.
+pub const MAIN: MethodId = MethodId(0);
+
+/// The constructor.
+pub const CONSTRUCTOR: MethodId = MethodId(1);
+
+/// The method with a receiver.
+pub const MEMBER: MethodId = MethodId(2);
+
+/// The method without code.
+pub const WITHOUT_CODE: MethodId = MethodId(3);
+
 /// A reached instruction with this operation.
 fn instr(alloc: Global, pc: u32, op: Op, next: &[u64], height: u32) -> Result<Instr, Memory>
     ensures { IfOk result (λ x. x ≡ at pc op next.now height) }

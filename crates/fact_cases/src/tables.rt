@@ -3,21 +3,15 @@
 //! The program has one class, so five tokens, one field, and five methods: one of a constant, a call, a
 //! return and a throw, three of a return, and one without code.
 ghost use Rattle.std.specs.Prelude.{◌≡◌};
+ghost use Rattle.ja_ir.specs.Sample.{sample};
 
-use crate::sample::sample;
+use crate::sample::{CONSTRUCTOR, MAIN, MEMBER, WITHOUT_CODE};
 use ja_base::{FieldId, Memory, MethodId};
-use ja_facts::{CallGraph, ClassSets, Effects, Holds, Pairs, Reach, Rows, var_of};
-use ja_ir::Token;
+use ja_facts::{CallGraph, Effects, Holds, Pairs, Reach, Rows, var_of};
+use ja_ir::{Program, Token};
 use std::alloc::Global;
 
-const MAIN: MethodId = MethodId(0);
-
-const CONSTRUCTOR: MethodId = MethodId(1);
-
-const MEMBER: MethodId = MethodId(2);
-
-const WITHOUT_CODE: MethodId = MethodId(3);
-
+/// No method of the program.
 const NOWHERE: MethodId = MethodId(5);
 
 /// Adds what rows of numbers hold after writes.
@@ -42,37 +36,6 @@ pub fn add_variables(out: &mut String) -> Result<(), Memory> {
     Ok(writeln!(out, "variables {numbers:?}")?)
 }
 
-/// The least member of each set of the class sets that has one, or may have one.
-fn told(sets: &ClassSets) -> [Option<u32>; 10] {
-    [
-        sets.slot(MAIN, 1, 0).next_from(0),
-        sets.slot(MAIN, 3, 0).next_from(0),
-        sets.thrown(MAIN, 1).next_from(0),
-        sets.thrown(MAIN, 3).next_from(0),
-        sets.param(CONSTRUCTOR, 0).next_from(0),
-        sets.param(MEMBER, 0).next_from(0),
-        sets.result(MEMBER).next_from(0),
-        sets.out(WITHOUT_CODE).next_from(0),
-        sets.field(FieldId(0)).next_from(0),
-        sets.bag(Token(4)).next_from(0),
-    ]
-}
-
-/// Adds what the class sets tell at first, and after writes.
-pub fn add_class_sets(out: &mut String, alloc: Global) -> Result<(), Memory> {
-    let program = sample(alloc)?;
-    let mut sets = ClassSets::new(alloc, &program)?;
-    writeln!(out, "class sets {:?}", told(&sets))?;
-    sets.slot_mut(MAIN, 1, 0).add(4);
-    sets.thrown_mut(MAIN, 3).add(2);
-    sets.param_mut(MEMBER, 0).add(0);
-    sets.result_mut(MEMBER).add(1);
-    sets.out_mut(WITHOUT_CODE).add(3);
-    sets.field_mut(FieldId(0)).add(2);
-    sets.bag_mut(Token(4)).add(1);
-    Ok(writeln!(out, "class sets {:?}", told(&sets))?)
-}
-
 /// What the graph says of an instruction: whether it is reached, the number of its targets, whether the
 /// library is one, and the least taker.
 fn said(graph: &CallGraph, m: MethodId, i: u32) -> (bool, u64, bool, Option<u32>) {
@@ -86,19 +49,34 @@ fn said(graph: &CallGraph, m: MethodId, i: u32) -> (bool, u64, bool, Option<u32>
     )
 }
 
-/// Adds what the call graph says of some instructions, after writes.
-pub fn add_graph(out: &mut String, alloc: Global) -> Result<(), Memory> {
-    let program = sample(alloc)?;
-    let mut graph = CallGraph::new(alloc, &program)?;
+/// Adds what the call graph says at first, and what it answers to instructions that may run.
+pub fn add_reached(out: &mut String, alloc: Global, program: &Program) -> Result<(), Memory>
+    requires { program.now ≡ sample }
+{
+    let mut graph = CallGraph::new(alloc, program)?;
     writeln!(out, "graph {:?}", said(&graph, MAIN, 1))?;
     let first = graph.add(MAIN, 1);
     let again = graph.add(MAIN, 1);
     let other = graph.add(MEMBER, 0);
-    writeln!(out, "graph added {first} {again} {other}")?;
+    Ok(writeln!(out, "graph added {first} {again} {other}")?)
+}
+
+/// Adds what the call graph says of some instructions, after writes.
+pub fn add_calls(out: &mut String, alloc: Global, program: &Program) -> Result<(), Memory>
+    requires { program.now ≡ sample }
+{
+    let mut graph = CallGraph::new(alloc, program)?;
+    graph.add(MAIN, 1);
+    graph.add(MEMBER, 0);
     let targets = graph.targets_mut(MAIN, 1);
     targets.methods.push(2)?;
     targets.library = true;
     graph.takers_mut(MAIN, 1).add(4);
+    add_said(out, &graph)
+}
+
+/// Adds what the graph says of some instructions.
+fn add_said(out: &mut String, graph: &CallGraph) -> Result<(), Memory> {
     let places = [
         (MAIN, 0),
         (MAIN, 1),
@@ -110,20 +88,26 @@ pub fn add_graph(out: &mut String, alloc: Global) -> Result<(), Memory> {
         (NOWHERE, 0),
     ];
     for (m, i) in places {
-        writeln!(out, "graph at {} {i}: {:?}", m.0, said(&graph, m, i))?;
+        writeln!(out, "graph at {} {i}: {:?}", m.0, said(graph, m, i))?;
     }
     Ok(())
 }
 
 /// Adds which effects there are after writes.
-pub fn add_effects(out: &mut String, alloc: Global) -> Result<(), Memory> {
-    let program = sample(alloc)?;
-    let mut effects = Effects::new(alloc, &program)?;
+pub fn add_effects(out: &mut String, alloc: Global, program: &Program) -> Result<(), Memory>
+    requires { program.now ≡ sample }
+{
+    let mut effects = Effects::new(alloc, program)?;
     let before = effects.has(MEMBER, 1);
     let first = effects.add(MEMBER, 1);
     let again = effects.add(MEMBER, 1);
     let other = effects.add(MAIN, 0);
     writeln!(out, "effects {before}, added {first} {again} {other}")?;
+    add_had(out, &effects)
+}
+
+/// Adds which of some effects there are.
+fn add_had(out: &mut String, effects: &Effects) -> Result<(), Memory> {
     let places = [
         (MAIN, 0),
         (MAIN, 1),
@@ -139,47 +123,60 @@ pub fn add_effects(out: &mut String, alloc: Global) -> Result<(), Memory> {
     Ok(())
 }
 
-/// Adds which heap pairs there are after writes.
-pub fn add_pairs(out: &mut String, alloc: Global) -> Result<(), Memory> {
-    let program = sample(alloc)?;
-    let mut pairs = Pairs::new(alloc, &program)?;
-    let main = pairs.at_mut(MAIN, 3).add((4, 0));
-    let member = pairs.at_mut(MEMBER, 0).add((5, 5));
-    writeln!(out, "pairs added {main} {member}")?;
-    let held = [
-        pairs.at(MAIN, 3).contains((4, 0)),
-        pairs.at(MAIN, 3).contains((0, 4)),
-        pairs.at(MAIN, 2).contains((4, 0)),
-        pairs.at(MEMBER, 0).contains((5, 5)),
-        pairs.at(CONSTRUCTOR, 0).contains((5, 5)),
-    ];
-    Ok(writeln!(out, "pairs {held:?}")?)
+/// Adds which heap pairs there are after a write to a method of some instructions.
+pub fn add_pairs(out: &mut String, alloc: Global, program: &Program) -> Result<(), Memory>
+    requires { program.now ≡ sample }
+{
+    let mut pairs = Pairs::new(alloc, program)?;
+    let added = pairs.at_mut(MAIN, 3).add((4, 0));
+    let held = pairs.at(MAIN, 3).contains((4, 0));
+    let turned = pairs.at(MAIN, 3).contains((0, 4));
+    let before = pairs.at(MAIN, 2).contains((4, 0));
+    Ok(writeln!(out, "pairs added {added}: {held} {turned} {before}")?)
 }
 
-/// Adds which reachable pairs there are after writes.
-pub fn add_reach(out: &mut String, alloc: Global) -> Result<(), Memory> {
-    let program = sample(alloc)?;
-    let mut reach = Reach::new(alloc, &program)?;
+/// Adds which heap pairs there are after a write to a method of one instruction.
+pub fn add_small_pairs(out: &mut String, alloc: Global, program: &Program) -> Result<(), Memory>
+    requires { program.now ≡ sample }
+{
+    let mut pairs = Pairs::new(alloc, program)?;
+    let added = pairs.at_mut(MEMBER, 0).add((5, 5));
+    let held = pairs.at(MEMBER, 0).contains((5, 5));
+    let other = pairs.at(CONSTRUCTOR, 0).contains((5, 5));
+    Ok(writeln!(out, "pairs added {added}: {held} {other}")?)
+}
+
+/// Adds which reachable pairs there are after a write.
+pub fn add_reach(out: &mut String, alloc: Global, program: &Program) -> Result<(), Memory>
+    requires { program.now ≡ sample }
+{
+    let mut reach = Reach::new(alloc, program)?;
     let added = reach.at_mut(MAIN, 0).add((3, 2));
-    let held = [
-        reach.at(MAIN, 0).contains((3, 2)),
-        reach.at(MAIN, 0).contains((2, 3)),
-        reach.at(MAIN, 1).contains((3, 2)),
-    ];
-    Ok(writeln!(out, "reach added {added}: {held:?}")?)
+    let held = reach.at(MAIN, 0).contains((3, 2));
+    let turned = reach.at(MAIN, 0).contains((2, 3));
+    let after = reach.at(MAIN, 1).contains((3, 2));
+    Ok(writeln!(out, "reach added {added}: {held} {turned} {after}")?)
 }
 
-/// Adds what is held at first, and after writes.
-pub fn add_holds(out: &mut String, alloc: Global) -> Result<(), Memory> {
-    let program = sample(alloc)?;
-    let mut holds = Holds::new(alloc, &program)?;
-    let token = holds.of_token(Token(4)).next_from(0);
-    let field = holds.of_field(FieldId(0)).next_from(0);
-    writeln!(out, "holds {token:?} {field:?}")?;
+/// Adds what the objects of a token hold at first, and after a write.
+pub fn add_held(out: &mut String, alloc: Global, program: &Program) -> Result<(), Memory>
+    requires { program.now ≡ sample }
+{
+    let mut holds = Holds::new(alloc, program)?;
+    let before = holds.of_token(Token(4)).next_from(0);
     holds.of_token_mut(Token(4)).add(5);
-    holds.of_field_mut(FieldId(0)).add(0);
     let other = holds.of_token(Token(3)).next_from(0);
-    let token = holds.of_token(Token(4)).next_from(0);
-    let field = holds.of_field(FieldId(0)).next_from(0);
-    Ok(writeln!(out, "holds {other:?} {token:?} {field:?}")?)
+    let after = holds.of_token(Token(4)).next_from(0);
+    Ok(writeln!(out, "token holds {before:?} {other:?} {after:?}")?)
+}
+
+/// Adds what a field holds at first, and after a write.
+pub fn add_field_held(out: &mut String, alloc: Global, program: &Program) -> Result<(), Memory>
+    requires { program.now ≡ sample }
+{
+    let mut holds = Holds::new(alloc, program)?;
+    let before = holds.of_field(FieldId(0)).next_from(0);
+    holds.of_field_mut(FieldId(0)).add(0);
+    let after = holds.of_field(FieldId(0)).next_from(0);
+    Ok(writeln!(out, "field holds {before:?} {after:?}")?)
 }

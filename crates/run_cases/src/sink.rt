@@ -25,8 +25,9 @@ pub fn add_sink(out: &mut String, alloc: Global, lines: &[&str]) -> Result<(), M
     let mut sink = sink_of(alloc, lines)?;
     for line in lines {
         if let Some(text) = line.strip_prefix("write ") {
-            if !text.is_empty() {
-                let taken = sink.write(text.as_bytes()).ok();
+            let piece = text.as_bytes();
+            if !piece.is_empty() {
+                let taken = sink.write(piece).ok();
                 writeln!(out, "write {text}: {taken:?}, faults {}", sink.faults())?;
             }
         }
