@@ -27,7 +27,7 @@ fn spells(rt: &(impl Abort + AllocGlobal), bytes: &[u8], opcode: u8, operands: &
     };
     assert!(rt; code.instrs.len() == 1);
     let instr = code.instrs.at(0);
-    assert!(rt; instr.pc == 0 && instr.opcode == opcode);
+    assert!(rt; instr.pc == 0 && instr.opcode.number() == opcode);
     assert!(rt; instr.wide == (bytes.first() == Some(&196)));
     assert!(rt; instr.operands.as_slice() == operands);
     assert!(rt; instr.length as usize == bytes.len());
@@ -158,9 +158,14 @@ fn exception_tables(rt: HostRuntime) {
 
 #[test]
 fn forms(rt: HostRuntime) {
-    assert!(rt; form_of(196) == Some(Form::Wide));
-    assert!(rt; form_of(202).is_none());
-    assert!(rt; mnemonic_of(201) == Some("jsr_w") && mnemonic_of(202).is_none());
-    assert!(rt; opcode_of(b"jsr_w") == Some(201) && opcode_of(b"jsr_").is_none());
-    assert!(rt; is_refused_opcode(169) && !is_refused_opcode(170));
+    let named = Opcode::named(b"jsr_w");
+    assert!(rt;
+        named == Opcode::of(201) && named.is_some_and(|opcode| opcode.mnemonic() == "jsr_w")
+    );
+    assert!(rt; Opcode::named(b"jsr_").is_none());
+    assert!(rt; Opcode::of(202).is_none());
+    assert!(rt; Opcode::of(196).is_some_and(|opcode| opcode.form() == Form::Wide));
+    assert!(rt; Opcode::of(96).is_some_and(|opcode| opcode.behaviour().is_some()));
+    assert!(rt; Opcode::of(169).is_some_and(|opcode| opcode.is_refused()));
+    assert!(rt; Opcode::of(170).is_some_and(|opcode| !opcode.is_refused()));
 }

@@ -696,7 +696,11 @@ fn check_instrs(rt: &impl Abort, pool: &Pool, instrs: &[RawInstr], expected: &[(
     assert_eq!(rt; instrs.len(), expected.len());
     for (instr, (pc, opcode, says)) in instrs.iter().zip(expected) {
         assert_eq!(rt; instr.pc, *pc);
-        assert_eq!(rt; (instr.opcode, instr.wide), (*opcode, false), "at {pc}");
+        assert_eq!(rt;
+            (instr.opcode.number(), instr.wide),
+            (*opcode, false),
+            "at {pc}"
+        );
         assert!(rt; has_operands(pool, instr, *says), "at {pc}");
     }
 }
