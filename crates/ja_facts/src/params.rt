@@ -4,6 +4,7 @@ ghost use Rattle.ja_ir.specs.Descriptors.{types_from, params_of, Before};
 ghost use Rattle.ja_facts.specs.Slots.{param_count};
 ghost use Rattle.ja_facts.specs.Reading.{place_after, ends_type};
 
+use ja_base::flags::STATIC;
 use ja_ir::Method;
 
 // Where a reader of a method descriptor stands: at the start of a type, in the `[` before one, in the name
@@ -20,7 +21,7 @@ pub fn param_count(method: &Method) -> u64
     ensures { result ≡ param_count method.now }
 {
     let types = count_params(method.desc.bytes());
-    if method.flags & 0x0008 == 0 {
+    if method.flags & u32::from(STATIC) == 0 {
         types + 1
     } else {
         types
