@@ -114,17 +114,10 @@ fn add_row(
 fn entry(alloc: Global, class: ClassId, method: MethodId, row: &EntryRow) -> Result<Entry, Memory>
     ensures { IfOk result (λ entry. entry ≡ specs.entry_at class.0 method.0 row.now) }
 {
-    let marked = copy_numbers(alloc, row.marked.as_slice())?;
+    let marked = Numbers::copy_of(alloc, row.marked.as_slice())?;
     Ok(Entry {
         class,
         method,
         marked,
     })
-}
-
-/// The same numbers.
-fn copy_numbers(alloc: Global, numbers: &[u64]) -> Result<Numbers, Memory>
-    ensures { IfOk result (λ copy. copy ≡ numbers.now) }
-{
-    Ok(Seq::from_vec(Vec::from_slice(alloc, numbers)?))
 }

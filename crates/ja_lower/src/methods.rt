@@ -118,7 +118,7 @@ fn add_sites(
 fn site_of(alloc: Global, m: MethodId, site: &MethodSite) -> Result<Site, Memory>
     ensures { IfOk result (λ copy. copy ≡ site_of m.0 site.now) }
 {
-    let positions = copy_numbers(alloc, site.positions.as_slice())?;
+    let positions = Numbers::copy_of(alloc, site.positions.as_slice())?;
     let target = site.target.copy(alloc)?;
     Ok(Site {
         method: m,
@@ -126,11 +126,4 @@ fn site_of(alloc: Global, m: MethodId, site: &MethodSite) -> Result<Site, Memory
         positions,
         target,
     })
-}
-
-/// The same numbers.
-fn copy_numbers(alloc: Global, numbers: &[u64]) -> Result<Numbers, Memory>
-    ensures { IfOk result (λ copy. copy ≡ numbers.now) }
-{
-    Ok(Seq::from_vec(Vec::from_slice(alloc, numbers)?))
 }
