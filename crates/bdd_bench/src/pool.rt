@@ -4,7 +4,7 @@ ghost use Rattle.ja_bdd.specs.Meaning.{Keeps};
 ghost use Rattle.ja_bdd.specs.Workers.{IsWorkerOf, seen};
 
 use crate::failure::Failure;
-use ja_bdd::{Copies, Worker};
+use ja_bdd::Worker;
 use ja_node_core::AnyAim;
 use ja_node_table::{Node, NodeSeat, NodeTable};
 use std::alloc::Global;
@@ -31,8 +31,6 @@ pub enum Step {
     And,
     Or,
     Exists(u32),
-    ExistsAll(Copies),
-    AndExists(Copies),
 }
 
 /// Makes one operation, of a worker that knows both nodes.
@@ -53,8 +51,6 @@ pub fn ask(
         Step::And => worker.and(table, f, g).ok(),
         Step::Or => worker.or(table, f, g).ok(),
         Step::Exists(var) => worker.exists(table, f, var).ok(),
-        Step::ExistsAll(copies) => worker.exists_all(table, f, copies).ok(),
-        Step::AndExists(copies) => worker.and_exists(table, f, g, copies).ok(),
     }
 }
 
@@ -94,18 +90,16 @@ impl Pool {
     ghost use Rattle.ja_bdd.specs.Workers.{IsWorkerOf, seen};
     ghost use Rattle.bdd_bench.specs.Ready.{AreKnown, IsReady};
 
-    /// The pool of the two constants, whose worker has a cache of so many entries.
+    /// The pool of the two constants.
     fn constants(
         alloc: Global,
         table: &NodeTable<AnyAim>,
         seat: NodeSeat<AnyAim>,
-        entries: usize,
     ) -> Result<Pool, Failure>
-        requires seat { IsOf table.now seat }
-        requires entries { (1 ≤ entries) × (entries ≤ 1048576) }
+        requires { IsOf table.now seat }
         ensures { IfOk result (λ p. IsReady table.now p) }
     {
-        let Ok(worker) = Worker::with_cache(alloc, seat, entries) else {
+        let Ok(worker) = Worker::new(alloc, seat) else {
             return Err(Failure::Memory);
         };
         let nodes = vec![in alloc; Node::FALSE, Node::TRUE]?;
@@ -125,19 +119,16 @@ impl Pool {
         Ok(())
     }
 
-    /// The pool of the constants, the variables and their negations, whose worker has a cache of so
-    /// many entries.
+    /// The pool of the constants, the variables and their negations.
     pub fn new(
         alloc: Global,
         table: &NodeTable<AnyAim>,
         seat: NodeSeat<AnyAim>,
-        entries: usize,
     ) -> Result<Pool, Failure>
-        requires seat { IsOf table.now seat }
-        requires entries { (1 ≤ entries) × (entries ≤ 1048576) }
+        requires { IsOf table.now seat }
         ensures { IfOk result (λ p. IsReady table.now p) }
     {
-        let mut pool = Pool::constants(alloc, table, seat, entries)?;
+        let mut pool = Pool::constants(alloc, table, seat)?;
         for var in 0..4 * SLOTS {
             pool.add(table, var, true)?;
             pool.add(table, var, false)?;

@@ -2,4 +2,3 @@ pub mod Refusal
 pub mod Cause
 pub mod Kind
 pub mod Descriptor
-pub mod Index

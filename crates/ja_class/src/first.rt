@@ -9,6 +9,8 @@ mod layout;
 mod names;
 mod pool;
 mod reader;
+#[cfg(test)]
+pub(crate) mod tests;
 
 use constant::Constant;
 use ja_base::{Name, Seq};

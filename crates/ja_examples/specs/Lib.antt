@@ -1,3 +1,4 @@
+pub mod Solutions
 pub mod Truth
 pub mod Library
 pub mod Passing
@@ -6,8 +7,6 @@ pub mod Building
 pub mod Unlinking
 pub mod Parting
 pub mod Entering
+pub mod Runs
 pub mod Choosing
 pub mod Elements
-pub mod Initialising
-pub mod Labelling
-pub mod Runs

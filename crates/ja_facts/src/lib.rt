@@ -27,3 +27,6 @@ pub use pairs::{Pairs, Reach};
 pub use params::param_count;
 pub use rows::Rows;
 pub use targets::Targets;
+
+#[cfg(test)]
+mod tests;

@@ -16,6 +16,8 @@ mod package;
 mod skip;
 mod starts;
 mod tables;
+#[cfg(test)]
+mod tests;
 
 pub use fault::HierFault;
 pub use field_at::FieldAt;

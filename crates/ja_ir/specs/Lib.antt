@@ -3,12 +3,9 @@ pub mod Descriptors
 pub mod Operations
 pub mod Tokens
 pub mod Handlers
-pub mod Categories
-pub mod Initializing
-pub mod Params
 pub mod Whole
 pub mod Entries
 pub mod Blocks
-pub mod InnerLeaders
+pub mod Leaders
 pub mod Examples
 pub mod Sample

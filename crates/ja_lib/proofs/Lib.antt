@@ -2,4 +2,3 @@ pub mod Among
 pub mod OneAnswer
 pub mod Places
 pub mod Reading
-pub mod Categorized

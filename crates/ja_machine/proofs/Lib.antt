@@ -1,4 +1,3 @@
-pub mod Marks
 pub mod Meets
 pub mod Explores
 pub mod Marked
@@ -8,8 +7,3 @@ pub mod Runs
 pub mod Later
 pub mod Longer
 pub mod Actions
-pub mod Slots
-pub mod Starts
-pub mod Leaves
-pub mod Effects
-pub mod Heaps

@@ -4,9 +4,8 @@ use ja_ir::Token;
 /// A value of the marked machine.
 #[derive(Clone, Copy, PartialEq, Eq)]
 pub enum Value {
-    /// A primitive value. All that is kept of it is its marks: bit c is one where it has a mark of
-    /// category c.
-    Prim(u8),
+    /// A primitive value. All that is kept of it is whether it is marked.
+    Prim(bool),
     Null,
     /// A reference to the object at a place of the heap.
     Ref(u64),
@@ -24,8 +23,8 @@ pub struct FieldValue {
 pub struct Object {
     pub token: Token,
     pub fields: FieldValues,
-    /// The marks of the object itself: bit c is one where it has a mark of category c.
-    pub mark: u8,
+    /// Whether the object itself is marked.
+    pub mark: bool,
     /// The places of the objects that it holds otherwise than in fields: the elements of an array
     /// of references, or what library calls have put into it.
     pub bag: Numbers,

@@ -1,4 +1,3 @@
-use Rattle.std.proofs.Common.{refl}
 use Rattle.ja_facts.proofs.ExampleFacts as facts
 use Rattle.ja_facts.proofs.law.law_example.Goals as goal
 
@@ -10,7 +9,6 @@ returns c = record {
   read = facts.read;
   threw = facts.threw;
   returned = facts.returned;
-  warned = ((λ t. facts.warned, λ w. refl), tt);
+  warned = facts.warned;
   line = facts.line;
-  named = facts.named;
 }

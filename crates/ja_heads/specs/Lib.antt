@@ -1,6 +1,0 @@
-pub mod Signatures
-pub mod Fields
-pub mod Entries
-pub mod Initializers
-pub mod Classes
-pub mod Supers

@@ -1,0 +1,91 @@
+ghost use Rattle.std.specs.Prelude.{◌≡◌, ◌+◌, ◌<◌, ◌≤◌, All, IfOk, OnOk, length};
+ghost use Rattle.ja_ir.specs.Blocks.{StaysInside};
+
+use crate::{
+    CallKind, CallOp, Instr, Instrs, LibRow, Method, Op, RowEffect, RowFlow, RowResult, blocks_of,
+};
+use ja_base::{ClassId, Kind, Memory, Name, Seq};
+use std::alloc::Global;
+use std::test::Fail;
+
+/// A static call of a method of two parameters.
+fn call(alloc: Global, name: &[u8]) -> Result<Op, Memory> {
+    Ok(Op::Call(CallOp {
+        kind: CallKind::Static,
+        class: Name::of(alloc, b"F")?,
+        name: Name::of(alloc, name)?,
+        desc: Name::of(alloc, b"(Ljava/lang/String;I)Ljava/lang/String;")?,
+        params: Seq::new(alloc),
+        result: None,
+        row: LibRow {
+            flow: RowFlow::Args,
+            effect: RowEffect::Quiet,
+            result: RowResult::Fresh,
+            sinks: Seq::new(alloc),
+        },
+        found: None,
+    }))
+}
+
+/// Adds an instruction that leads to these indices, all of them below 8.
+fn add(code: &mut Instrs, alloc: Global, pc: u32, op: Op, next: &[u64]) -> Result<(), Memory>
+    requires below { All (λ j. j < 8) next.now }
+    requires so_far { All (λ instr. All (λ j. j < 8) instr.next) code.old }
+    ensures inside { OnOk result (All (λ instr. All (λ j. j < 8) instr.next) code.new) }
+    ensures size { OnOk result (length code.new ≡ length code.old + 1) }
+{
+    let next = Seq::from_vec(Vec::from_slice(alloc, next)?);
+    code.push(Instr {
+        pc,
+        op,
+        next,
+        height: 0,
+        reached: true,
+    })
+}
+
+/// A method that returns its text, or calls another method with a source's text:
+///
+/// ```text
+/// 0 iload_1, 1 ifne 6, 4 aload_0, 5 areturn, 6 invokestatic, 9 iload_1, 10 invokestatic, 13 areturn
+/// ```
+fn recursive(alloc: Global) -> Result<Method, Memory>
+    ensures inside { IfOk result StaysInside }
+    ensures size { IfOk result (λ m. length m.code ≡ 8) }
+{
+    let mut code: Instrs = Seq::new(alloc);
+    add(&mut code, alloc, 0, Op::Load(Kind::P1, 1), &[1])?;
+    add(&mut code, alloc, 1, Op::Branch { pops: 1 }, &[4, 2])?;
+    add(&mut code, alloc, 4, Op::Load(Kind::R, 0), &[3])?;
+    add(&mut code, alloc, 5, Op::Return(Some(Kind::R)), &[])?;
+    add(&mut code, alloc, 6, call(alloc, b"source")?, &[5])?;
+    add(&mut code, alloc, 9, Op::Load(Kind::P1, 1), &[6])?;
+    add(&mut code, alloc, 10, call(alloc, b"g")?, &[7])?;
+    add(&mut code, alloc, 13, Op::Return(Some(Kind::R)), &[])?;
+    Ok(Method {
+        class: ClassId(0),
+        name: Name::of(alloc, b"f")?,
+        desc: Name::of(alloc, b"(Ljava/lang/String;I)Ljava/lang/String;")?,
+        flags: 9,
+        locals: 2,
+        stack: 2,
+        code,
+        handlers: Seq::new(alloc),
+    })
+}
+
+#[test]
+fn blocks_of_a_recursive_method(rt: HostRuntime) -> Result<(), Fail> {
+    let alloc = rt.alloc();
+    let method = recursive(alloc)?;
+    let blocks = blocks_of(alloc, &method)?;
+    assert_eq!(rt; blocks.len(), 5);
+    let mut starts: Vec<u32> = Vec::new(alloc);
+    for block in blocks.as_slice() {
+        let index = block.first as u64;
+        assert!(rt; index < method.code.len());
+        starts.push(method.code.at(index).pc)?;
+    }
+    assert_eq!(rt; starts.as_slice(), [0, 4, 6, 9, 13].as_slice());
+    Ok(())
+}
