@@ -1,10 +1,11 @@
 #!/usr/bin/env bash
-# Operations on decision diagrams a second, with one worker, beside BuDDy on the same work in the same run: the same
+# How long operations on decision diagrams take, with one worker, beside BuDDy on the same work in the same run: the same
 # variable order, no reordering, and room for all nodes, so that none is collected. The identity relation of 64 slots
-# composed with itself, and relations of disjunctions over 30 slots. BuDDy runs with caches of 1,024 entries each, and
-# of a million; and once more so, but forgetting all variables of a relation at once, which our operations cannot. The
-# nodes are those that BuDDy made. Where no BuDDy is installed, Debian's package is fetched for this run and unpacked to
-# a folder of its own. Each figure is the best of some runs; the last says how many times as fast as ours it is.
+# composed with itself, relations of disjunctions over 30 slots with some variables forgotten, and pairs of these composed.
+# Both programs run with caches of 1,024, 262,144 and 1,048,576 entries. What two composed relations share is forgotten one
+# variable after the other, in one call, and in one pass with the conjunction. The nodes are those that BuDDy made. Where no
+# BuDDy is installed, Debian's package is fetched for this run and unpacked to a folder of its own. Each figure is the best
+# of some runs; the last says how many times as fast as BuDDy ours is.
 # Usage: bench/bdd.sh [RUNS]
 . "$(dirname "$0")/common.sh"
 runs=${1:-5}
@@ -27,31 +28,26 @@ number() {
 }
 
 echo "load average: $(cut -d' ' -f1-3 /proc/loadavg)"
-printf '%-14s %-20s %10s %8s %8s %14s %14s %8s\n' work program ms steps nodes 'steps/s' 'nodes/s' 'speed'
-for what in 'identity 1' 'identity 100' 'taint 1' 'taint 20'; do
-    # The words are two.
-    # shellcheck disable=SC2086
-    {
-        best "$ours" $what >ours
-        best ./buddy $what 1024 >small
-        best ./buddy $what 1000000 >large
-        best ./buddy $what 1000000 sets >sets
-    }
-    for other in small large sets; do
-        if [ "$(number answer <ours)" != "$(number answer <$other)" ]; then
-            echo "$what: the programs do not agree: $(cat ours), $(cat $other)" >&2
-            exit 1
-        fi
+printf '%-14s %-10s %9s %10s %10s %12s %12s %8s\n' work forgetting cache steps nodes 'ours, ms' 'BuDDy, ms' speed
+for what in 'identity 1' 'identity 100' 'taint 1' 'taint 20' 'calls 1' 'calls 2'; do
+    ways=('' sets products)
+    [ "${what% *}" = taint ] && ways=('')
+    for way in "${ways[@]}"; do
+        for cache in 1024 262144 1048576; do
+            # The words are several.
+            # shellcheck disable=SC2086
+            {
+                best "$ours" $what $cache $way >ours
+                best ./buddy $what $cache $way >other
+            }
+            if [ "$(number answer <ours)" != "$(number answer <other)" ]; then
+                # A relation that is made whole may be too large for the largest table.
+                printf '%-14s %-10s %9d   %s | %s\n' "$what" "${way:-singly}" $cache "$(cat ours)" "$(cat other)"
+                continue
+            fi
+            awk -v what="$what" -v way="${way:-singly}" -v cache=$cache -v n="$(number operations <other)" \
+                -v nodes="$(number nodes <other)" -v t="$(number in <ours)" -v base="$(number in <other)" \
+                'BEGIN { printf "%-14s %-10s %9d %10d %10d %12.2f %12.2f    x%.2f\n", what, way, cache, n, nodes, t / 1e6, base / 1e6, base / t }'
+        done
     done
-    operations=$(number operations <small)
-    nodes=$(number nodes <small)
-    base=$(number in <ours)
-    show() {
-        awk -v what="$what" -v name="$1" -v n="$operations" -v nodes="$nodes" -v t="$(number in <"$2")" -v base="$base" \
-            'BEGIN { printf "%-14s %-20s %10.2f %8d %8d %14.0f %14.0f    x%.2f\n", what, name, t / 1e6, n, nodes, n / t * 1e9, nodes / t * 1e9, base / t }'
-    }
-    show bdd_bench ours
-    show 'BuDDy, 1,024' small
-    show 'BuDDy, a million' large
-    show 'BuDDy, sets' sets
 done

@@ -1,6 +1,7 @@
 ghost use Rattle.std.specs.Prelude.{◌≡◌, ◌<◌, OnOk};
 ghost use Rattle.bdd_bench.specs.Ready.{IsReady};
 
+use crate::compose::{Forgetting, compose};
 use crate::failure::Failure;
 use crate::pool::{Pool, SLOTS, Step, TRUE, is, is_not};
 use ja_node_core::AnyAim;
@@ -23,28 +24,14 @@ fn kept(pool: &mut Pool, table: &NodeTable<AnyAim>, one: u32, other: u32) -> Res
     Ok(made)
 }
 
-/// The relation that is composed of two, where the copy that both speak of is forgotten.
-fn compose(
-    pool: &mut Pool,
-    table: &NodeTable<AnyAim>,
-    f: usize,
-    g: usize,
-    copy: u32,
-) -> Result<usize, Failure>
-    requires ready { IsReady table.now pool.old }
-    requires copy { copy < 4 }
-    ensures { OnOk result (IsReady table.now pool.new) }
-{
-    let mut made = pool.step(table, Step::And, f, g)?;
-    for slot in 0..SLOTS {
-        made = pool.step(table, Step::Exists(4 * slot + copy), made, made)?;
-    }
-    Ok(made)
-}
-
 /// Composes the relation that keeps each slot so many times with itself, to copy 2 and back to
 /// copy 1 in turn. Answers 1 where that keeps each slot, too, else 0.
-pub fn identity(pool: &mut Pool, table: &NodeTable<AnyAim>, rounds: u64) -> Result<u64, Failure>
+pub fn identity(
+    pool: &mut Pool,
+    table: &NodeTable<AnyAim>,
+    forgetting: Forgetting,
+    rounds: u64,
+) -> Result<u64, Failure>
     requires { IsReady table.now pool.old }
     ensures { OnOk result (IsReady table.now pool.new) }
 {
@@ -52,8 +39,8 @@ pub fn identity(pool: &mut Pool, table: &NodeTable<AnyAim>, rounds: u64) -> Resu
     let next = kept(pool, table, 1, 2)?;
     let mut made = start;
     for _round in 0..rounds {
-        let across = compose(pool, table, made, next, 1)?;
-        made = compose(pool, table, across, next, 2)?;
+        let across = compose(pool, table, forgetting, made, next, 1)?;
+        made = compose(pool, table, forgetting, across, next, 2)?;
     }
     let start = pool.node(start)?;
     let made = pool.node(made)?;

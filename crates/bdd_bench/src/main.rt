@@ -1,18 +1,23 @@
 //! Measures how long operations on decision diagrams take, with one worker.
 //!
-//! `bdd_bench identity ROUNDS` composes the relation that keeps 64 slots ROUNDS times with itself.
-//! `bdd_bench taint ROUNDS` makes ROUNDS relations of disjunctions over 30 slots. Both print what
-//! they came to and how long it took. With any other words it does a little of both, and prints
-//! what they came to.
+//! `bdd_bench identity ROUNDS CACHE` composes the relation that keeps 64 slots ROUNDS times with
+//! itself. `bdd_bench taint ROUNDS CACHE` makes ROUNDS relations of disjunctions over 30 slots and
+//! forgets some variables of each. `bdd_bench calls ROUNDS CACHE` composes ROUNDS pairs of these.
+//! CACHE is how many entries the worker's cache has. With the word `sets`, all variables that the
+//! relations of a composition share are forgotten at once, and with `products` in one pass with
+//! the conjunction. Each prints what it came to and how long it took. With any other words it does
+//! a little of each, and prints what they came to.
 #![tactic(auto)]
 
 ghost use Rattle.std.specs.Prelude.{◌≤◌};
 
+mod compose;
 mod failure;
 mod identity;
 mod pool;
 mod taint;
 
+use compose::Forgetting;
 use failure::Failure;
 use identity::identity;
 use ja_node_core::AnyAim;
@@ -22,7 +27,7 @@ use std::alloc::Global;
 use std::rt::{Clock, Env};
 use std::time::{Duration, Instant};
 use std::{env, io};
-use taint::taint;
+use taint::{calls, taint};
 
 /// How many nodes the table has room for.
 const ROOM: u64 = 1 << 24;
@@ -30,24 +35,50 @@ const ROOM: u64 = 1 << 24;
 /// How many the small table has room for.
 const LITTLE_ROOM: u64 = 1 << 20;
 
+/// How many entries a worker's cache has, where the words do not say.
+const LITTLE_CACHE: u64 = 1_024;
+
 #[derive(Clone, Copy)]
 enum Work {
     Identity,
     Taint,
+    Calls,
 }
 
-/// The work that the words say, and how many rounds of it.
-fn asked_work<R: Env + AllocGlobal>(rt: &R) -> io::Result<Option<(Work, u64)>> {
+/// What is done, how often, and by what means.
+#[derive(Clone, Copy)]
+struct Asked {
+    work: Work,
+    forgetting: Forgetting,
+    rounds: u64,
+    entries: u64,
+}
+
+/// What the words ask for.
+fn asked_work<R: Env + AllocGlobal>(rt: &R) -> io::Result<Option<Asked>> {
     let mut work = None;
+    let mut forgetting = Forgetting::Singly;
     let mut rounds = None;
+    let mut entries = LITTLE_CACHE;
     for word in env::args(rt)?.skip(1) {
         match word.as_str() {
             "identity" => work = Some(Work::Identity),
             "taint" => work = Some(Work::Taint),
-            number => rounds = number.parse::<u64>().ok(),
+            "calls" => work = Some(Work::Calls),
+            "sets" => forgetting = Forgetting::AtOnce,
+            "products" => forgetting = Forgetting::InProduct,
+            number if rounds.is_none() => rounds = number.parse::<u64>().ok(),
+            number => entries = number.parse::<u64>().unwrap_or(LITTLE_CACHE),
         }
     }
-    Ok(work.zip(rounds))
+    Ok(
+        work.zip(rounds).map(|(work, rounds)| Asked {
+            work,
+            forgetting,
+            rounds,
+            entries,
+        }),
+    )
 }
 
 /// Does the work on a new table. Answers what it came to, and how long it took.
@@ -55,17 +86,18 @@ fn measure<R: Clock>(
     rt: &R,
     alloc: Global,
     room: u64,
-    work: Work,
-    rounds: u64,
+    asked: Asked,
 ) -> Result<(u64, Duration), Failure>
     requires { (16 ≤ room) × (room ≤ 16777216) }
 {
     let (table, seat) = NodeTable::new(alloc, room, AnyAim)?;
-    let mut pool = Pool::new(alloc, &table, seat)?;
+    let entries = asked.entries.max(1).min(1 << 20) as usize;
+    let mut pool = Pool::new(alloc, &table, seat, entries)?;
     let start = Instant::now(rt)?;
-    let answer = match work {
-        Work::Identity => identity(&mut pool, &table, rounds)?,
-        Work::Taint => taint(&mut pool, &table, rounds)?,
+    let answer = match asked.work {
+        Work::Identity => identity(&mut pool, &table, asked.forgetting, asked.rounds)?,
+        Work::Taint => taint(&mut pool, &table, asked.rounds)?,
+        Work::Calls => calls(&mut pool, &table, asked.forgetting, asked.rounds)?,
     };
     Ok((answer, start.elapsed(rt)?))
 }
@@ -80,14 +112,25 @@ fn text(failure: Failure) -> &'static str {
 }
 
 fn main(rt: HostRuntime) -> io::Result<()> {
-    if let Some((work, rounds)) = asked_work(&rt)? {
-        return match measure(&rt, rt.alloc(), ROOM, work, rounds) {
+    if let Some(asked) = asked_work(&rt)? {
+        return match measure(&rt, rt.alloc(), ROOM, asked) {
             Ok((answer, time)) => println!(rt; "answer {answer} in {} ns", time.as_nanos()),
             Err(failure) => println!(rt; "{}", text(failure)),
         };
     }
-    for work in [Work::Identity, Work::Taint] {
-        match measure(&rt, rt.alloc(), LITTLE_ROOM, work, 2) {
+    let little = |work, forgetting| Asked {
+        work,
+        forgetting,
+        rounds: 2,
+        entries: LITTLE_CACHE,
+    };
+    for asked in [
+        little(Work::Identity, Forgetting::Singly),
+        little(Work::Identity, Forgetting::AtOnce),
+        little(Work::Identity, Forgetting::InProduct),
+        little(Work::Taint, Forgetting::Singly),
+    ] {
+        match measure(&rt, rt.alloc(), LITTLE_ROOM, asked) {
             Ok((answer, _)) => println!(rt; "answer {answer}")?,
             Err(failure) => println!(rt; "{}", text(failure))?,
         }

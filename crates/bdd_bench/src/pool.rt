@@ -4,7 +4,7 @@ ghost use Rattle.ja_bdd.specs.Meaning.{Keeps};
 ghost use Rattle.ja_bdd.specs.Workers.{IsWorkerOf, seen};
 
 use crate::failure::Failure;
-use ja_bdd::Worker;
+use ja_bdd::{Copies, Worker};
 use ja_node_core::AnyAim;
 use ja_node_table::{Node, NodeSeat, NodeTable};
 use std::alloc::Global;
@@ -31,6 +31,8 @@ pub enum Step {
     And,
     Or,
     Exists(u32),
+    ExistsAll(Copies),
+    AndExists(Copies),
 }
 
 /// Makes one operation, of a worker that knows both nodes.
@@ -51,6 +53,8 @@ pub fn ask(
         Step::And => worker.and(table, f, g).ok(),
         Step::Or => worker.or(table, f, g).ok(),
         Step::Exists(var) => worker.exists(table, f, var).ok(),
+        Step::ExistsAll(copies) => worker.exists_all(table, f, copies).ok(),
+        Step::AndExists(copies) => worker.and_exists(table, f, g, copies).ok(),
     }
 }
 
@@ -90,16 +94,18 @@ impl Pool {
     ghost use Rattle.ja_bdd.specs.Workers.{IsWorkerOf, seen};
     ghost use Rattle.bdd_bench.specs.Ready.{AreKnown, IsReady};
 
-    /// The pool of the two constants.
+    /// The pool of the two constants, whose worker has a cache of so many entries.
     fn constants(
         alloc: Global,
         table: &NodeTable<AnyAim>,
         seat: NodeSeat<AnyAim>,
+        entries: usize,
     ) -> Result<Pool, Failure>
-        requires { IsOf table.now seat }
+        requires seat { IsOf table.now seat }
+        requires entries { (1 ≤ entries) × (entries ≤ 1048576) }
         ensures { IfOk result (λ p. IsReady table.now p) }
     {
-        let Ok(worker) = Worker::new(alloc, seat) else {
+        let Ok(worker) = Worker::with_cache(alloc, seat, entries) else {
             return Err(Failure::Memory);
         };
         let nodes = vec![in alloc; Node::FALSE, Node::TRUE]?;
@@ -119,16 +125,19 @@ impl Pool {
         Ok(())
     }
 
-    /// The pool of the constants, the variables and their negations.
+    /// The pool of the constants, the variables and their negations, whose worker has a cache of so
+    /// many entries.
     pub fn new(
         alloc: Global,
         table: &NodeTable<AnyAim>,
         seat: NodeSeat<AnyAim>,
+        entries: usize,
     ) -> Result<Pool, Failure>
-        requires { IsOf table.now seat }
+        requires seat { IsOf table.now seat }
+        requires entries { (1 ≤ entries) × (entries ≤ 1048576) }
         ensures { IfOk result (λ p. IsReady table.now p) }
     {
-        let mut pool = Pool::constants(alloc, table, seat)?;
+        let mut pool = Pool::constants(alloc, table, seat, entries)?;
         for var in 0..4 * SLOTS {
             pool.add(table, var, true)?;
             pool.add(table, var, false)?;

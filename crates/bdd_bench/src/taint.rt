@@ -3,6 +3,7 @@ ghost use Rattle.ja_node_core.specs.Node.{Knows};
 ghost use Rattle.ja_bdd.specs.Workers.{IsWorkerOf, seen};
 ghost use Rattle.bdd_bench.specs.Ready.{IsReady};
 
+use crate::compose::{Forgetting, compose};
 use crate::failure::Failure;
 use crate::pool::{Pool, Step, TRUE, is, is_not};
 use ja_bdd::Worker;
@@ -34,34 +35,44 @@ fn slot_of(random: u64) -> u32
     (random >> 33) as u32 % TAINTED
 }
 
-/// What a slot is after a call at most: what it was, or what another one was.
+/// What a slot is after a call at most: what it was, or what another one was. The slots before the
+/// call are of this copy, and those after it of the next.
 fn clause(
     pool: &mut Pool,
     table: &NodeTable<AnyAim>,
     slot: u32,
+    copy: u32,
     random: &mut u64,
 ) -> Result<usize, Failure>
     requires ready { IsReady table.now pool.old }
     requires slot { slot < 30 }
+    requires copy { copy < 3 }
     ensures { OnOk result (IsReady table.now pool.new) }
 {
-    let mut made = pool.step(table, Step::Or, is_not(4 * slot + 1), is(4 * slot))?;
+    let var = 4 * slot + copy;
+    let mut made = pool.step(table, Step::Or, is_not(var + 1), is(var))?;
     let others = if slot < JOINED { 2 } else { 0 };
     for _other in 0..others {
         *random = next_random(*random);
-        made = pool.step(table, Step::Or, made, is(4 * slot_of(*random)))?;
+        made = pool.step(table, Step::Or, made, is(4 * slot_of(*random) + copy))?;
     }
     Ok(made)
 }
 
 /// What all slots are after a call at most.
-fn relation(pool: &mut Pool, table: &NodeTable<AnyAim>, random: &mut u64) -> Result<usize, Failure>
-    requires { IsReady table.now pool.old }
+fn relation(
+    pool: &mut Pool,
+    table: &NodeTable<AnyAim>,
+    copy: u32,
+    random: &mut u64,
+) -> Result<usize, Failure>
+    requires ready { IsReady table.now pool.old }
+    requires copy { copy < 3 }
     ensures { OnOk result (IsReady table.now pool.new) }
 {
     let mut made = TRUE;
     for down in 0..TAINTED {
-        let next = clause(pool, table, TAINTED - 1 - down, random)?;
+        let next = clause(pool, table, TAINTED - 1 - down, copy, random)?;
         made = pool.step(table, Step::And, next, made)?;
     }
     Ok(made)
@@ -130,8 +141,32 @@ pub fn taint(pool: &mut Pool, table: &NodeTable<AnyAim>, rounds: u64) -> Result<
     let mut random = 1;
     let mut trues = 0u64;
     for _round in 0..rounds {
-        let made = relation(pool, table, &mut random)?;
+        let made = relation(pool, table, 0, &mut random)?;
         let made = forget(pool, table, made, &mut random)?;
+        random = next_random(random);
+        let holds = value_of(pool, table, made, random)?;
+        trues = trues.wrapping_add(u64::from(holds));
+    }
+    Ok(trues)
+}
+
+/// Composes so many pairs of relations. Answers how many of the composed ones are true at a point
+/// each.
+pub fn calls(
+    pool: &mut Pool,
+    table: &NodeTable<AnyAim>,
+    forgetting: Forgetting,
+    rounds: u64,
+) -> Result<u64, Failure>
+    requires { IsReady table.now pool.old }
+    ensures { OnOk result (IsReady table.now pool.new) }
+{
+    let mut random = 1;
+    let mut trues = 0u64;
+    for _round in 0..rounds {
+        let first = relation(pool, table, 0, &mut random)?;
+        let second = relation(pool, table, 1, &mut random)?;
+        let made = compose(pool, table, forgetting, first, second, 1)?;
         random = next_random(random);
         let holds = value_of(pool, table, made, random)?;
         trues = trues.wrapping_add(u64::from(holds));

@@ -5,20 +5,36 @@
 //! and prints the nanoseconds for the pools alone and for the classes, too.
 #![tactic(auto)]
 
-mod files;
 mod tally;
-#[cfg(test)]
-mod tests;
 
-use files::{class_files, directory_and_rounds};
+use ja_base::{Name, Names};
 use std::io;
 use std::time::Instant;
 use tally::{NUMBERS, pool_indices, tally_of};
+use tool_parts::{files_in, words_of};
+
+/// The directory and the number of rounds, 0 where none is given.
+fn directory_and_rounds(words: &Names) -> io::Result<(&Name, u64)> {
+    match words.as_slice() {
+        [dir] => Ok((dir, 0)),
+        [dir, rounds, ..] => Ok((dir, number_of(rounds))),
+        [] => Err(io::Error::from(io::ErrorKind::InvalidInput)),
+    }
+}
+
+/// The number that a word is, 0 where it is none.
+fn number_of(word: &Name) -> u64 {
+    match str::from_utf8(word.bytes()) {
+        Ok(text) => text.parse::<u64>().unwrap_or(0),
+        Err(_) => 0,
+    }
+}
 
 fn main(rt: HostRuntime) -> io::Result<()> {
     let alloc = rt.alloc();
-    let (dir, rounds) = directory_and_rounds(&rt)?;
-    let files = class_files(&rt, alloc, &dir)?;
+    let words = words_of(&rt)?;
+    let (dir, rounds) = directory_and_rounds(&words)?;
+    let files = files_in(&rt, dir, b".class")?;
     let start = Instant::now(&rt)?;
     let mut indices = pool_indices(alloc, files.as_slice());
     for _ in 1..rounds {

@@ -1,6 +1,6 @@
 ghost use Rattle.std.specs.Prelude.{◌<◌};
 
-use ja_base::Bytes;
+use ja_base::File;
 use ja_bytes::Cursor;
 use ja_class::{ClassFault, read_class};
 use ja_pool::read_pool;
@@ -45,17 +45,17 @@ fn number_of(fault: ClassFault) -> usize
 }
 
 /// Reads files as classes.
-pub fn tally_of(alloc: Global, files: &[Bytes]) -> Tally {
+pub fn tally_of(alloc: Global, files: &[File]) -> Tally {
     let mut tally = Tally {
         read: 0,
         bytes: 0,
         refused: [0; NUMBERS],
     };
     for file in files {
-        match read_class(alloc, file.as_slice()) {
+        match read_class(alloc, file.bytes.as_slice()) {
             Ok(_class) => {
                 tally.read = tally.read.saturating_add(1);
-                tally.bytes = tally.bytes.saturating_add(file.len());
+                tally.bytes = tally.bytes.saturating_add(file.bytes.len());
             }
             Err(fault) => {
                 let number = number_of(fault);
@@ -78,10 +78,10 @@ fn indices_of(alloc: Global, file: &[u8]) -> Option<u64> {
 }
 
 /// Reads the pools of files alone, and answers how many indices they have together.
-pub fn pool_indices(alloc: Global, files: &[Bytes]) -> u64 {
+pub fn pool_indices(alloc: Global, files: &[File]) -> u64 {
     let mut indices = 0;
     for file in files {
-        indices = indices_and(alloc, file.as_slice(), indices);
+        indices = indices_and(alloc, file.bytes.as_slice(), indices);
     }
     indices
 }

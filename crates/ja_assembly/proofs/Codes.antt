@@ -8,7 +8,7 @@ use Rattle.ja_code.specs.declared.handler.RawHandler.{RawHandler}
 use Rattle.ja_code.specs.declared.code.Code.{Code}
 use Rattle.ja_code.specs.Grammar.{is_start, Spells}
 use Rattle.ja_pool.specs.Table.{Table, tags_of, dims_of}
-use Rattle.ja_attr.specs.Attribute.{IsAttribute, handler_bytes, code_bytes, IsCodeAttribute}
+use Rattle.ja_attributes.specs.Attribute.{IsAttribute, handler_bytes, code_bytes, IsCodeAttribute}
 use Rattle.ja_listing.specs.declared.item.Frame.{Frame}
 use Rattle.ja_assembly.specs.Members.{Labelled, Body, code_size, place_of_label}
 use Rattle.ja_assembly.specs.Unwritable.{is_some_of}

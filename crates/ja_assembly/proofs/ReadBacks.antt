@@ -7,8 +7,8 @@ use Rattle.std.proofs.lemmas.List.{append-nil}
 use Rattle.std.proofs.lemmas.Slice.Eq.{bytes_eq-Decides}
 use Rattle.ja_bytes.specs.Reading.{Reading}
 use Rattle.ja_pool.specs.Table.{Table, tag_at, text_at, class_name_at}
-use Rattle.ja_attr.specs.Attribute.{AttributeInfo, attributes_bytes, named, is_named, SayConstant, IsCode, SayCode, PassesMethod}
-use Rattle.ja_attr.specs.declared.code.MethodCode.{MethodCode}
+use Rattle.ja_attributes.specs.Attribute.{AttributeInfo, attributes_bytes, named, is_named, SayConstant, IsCode, SayCode, PassesMethod}
+use Rattle.ja_attributes.specs.declared.code.MethodCode.{MethodCode}
 use Rattle.ja_ir.specs.declared.head.HeadField.{HeadField}
 use Rattle.ja_ir.specs.declared.head.HeadMethod.{HeadMethod}
 use Rattle.ja_class.specs.declared.class.ClassMethod.{ClassMethod}

@@ -12,7 +12,7 @@ use Rattle.ja_code.specs.Opcode.{form_at}
 use Rattle.ja_code.specs.Bytes.{names}
 use Rattle.ja_code.specs.Grammar.{narrow, AreInstrs, is_start, is_branch, leads_to_starts, is_handler}
 use Rattle.ja_pool.specs.Table.{Table, tag_at, tags_of, dims_of}
-use Rattle.ja_attr.specs.Attribute.{IsHandler}
+use Rattle.ja_attributes.specs.Attribute.{IsHandler}
 use Rattle.ja_listing.specs.declared.item.Operand.{Operand}
 use Rattle.ja_listing.specs.declared.item.Operand.TheVariants.{Label}
 use Rattle.ja_assembly.specs.Members.{Labelled, Range, size_of_opcode, code_size, is_label_of, place_of_label}

@@ -8,8 +8,8 @@ use Rattle.std.proofs.lemmas.List.{length-map}
 use Rattle.ja_base.specs.Descriptor.{words_of_all}
 use Rattle.ja_bytes.specs.DescriptorText.{IsMethodText}
 use Rattle.ja_pool.specs.Table.{Table, text_at, class_name_at}
-use Rattle.ja_attr.specs.Attribute.{AttributeInfo, IsAttribute, named, is_named, SayCode, code_bytes}
-use Rattle.ja_attr.specs.declared.code.MethodCode.{MethodCode}
+use Rattle.ja_attributes.specs.Attribute.{AttributeInfo, IsAttribute, named, is_named, SayCode, code_bytes}
+use Rattle.ja_attributes.specs.declared.code.MethodCode.{MethodCode}
 use Rattle.ja_ir.specs.declared.head.HeadField.{HeadField}
 use Rattle.ja_ir.specs.declared.head.HeadMethod.{HeadMethod}
 use Rattle.ja_class.specs.declared.class.ClassMethod.{ClassMethod}

@@ -7,7 +7,7 @@ use Rattle.ja_code.specs.declared.opcode.Form.TheVariants as forms
 use Rattle.ja_code.specs.declared.handler.RawHandler.{RawHandler}
 use Rattle.ja_code.specs.Opcode.{form_at}
 use Rattle.ja_pool.specs.Entry.{Entry, utf8, single, pair}
-use Rattle.ja_attr.specs.Attribute.{AttributeInfo, CodeAttribute, code_bytes}
+use Rattle.ja_attributes.specs.Attribute.{AttributeInfo, CodeAttribute, code_bytes}
 use Rattle.ja_class.specs.ClassFile.{MemberInfo, ClassFile}
 use Rattle.ja_listing.specs.declared.number.Number.{Number}
 use Rattle.ja_listing.specs.declared.item.MemberName.{MemberName}

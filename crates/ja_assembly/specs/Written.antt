@@ -8,8 +8,8 @@ use Rattle.ja_code.specs.declared.code.Code.{Code}
 use Rattle.ja_code.specs.Opcode.{form_at}
 use Rattle.ja_pool.specs.Entry.{Entry}
 use Rattle.ja_pool.specs.Table.{Table, IsAt, tag_at, text_at, first_at, class_name_at, member_class_at, member_name_at, member_desc_at}
-use Rattle.ja_attr.specs.declared.code.MethodCode.{MethodCode}
-use Rattle.ja_attr.specs.Attribute.{AttributeInfo, IsCode}
+use Rattle.ja_attributes.specs.declared.code.MethodCode.{MethodCode}
+use Rattle.ja_attributes.specs.Attribute.{AttributeInfo, IsCode}
 use Rattle.ja_class.specs.Meaning.{ClassSpelled}
 use Rattle.ja_class.specs.ClassFile.{MemberInfo, ClassFile, pool_of, spelling, Says}
 use Rattle.ja_listing.specs.declared.number.Number.{Number}

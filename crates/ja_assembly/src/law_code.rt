@@ -1,6 +1,6 @@
 ghost use Rattle.std.specs.Prelude.{codes};
 ghost use Rattle.ja_pool.specs.Table.{Table};
-ghost use Rattle.ja_attr.specs.Attribute.{IsAttribute, code_bytes};
+ghost use Rattle.ja_attributes.specs.Attribute.{IsAttribute, code_bytes};
 ghost use Rattle.ja_listing.specs.declared.item.Frame.{Frame};
 ghost use Rattle.ja_assembly.specs.Members.{Body};
 ghost use Rattle.ja_assembly.specs.Assembled.{Pool, text_index, code_of};

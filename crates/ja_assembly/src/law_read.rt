@@ -5,7 +5,7 @@ ghost use Rattle.ja_listing.specs.Listed.{Listed};
 ghost use Rattle.ja_assembly.specs.Written.{IsWritten};
 ghost use Rattle.ja_assembly.specs.ReadBack.{IsAsListed};
 
-use ja_attr::law_method_attributes;
+use ja_attributes::law_method_attributes;
 use ja_class::law_spelled_or_refused;
 
 /// Whoever reads the class file of a listed class gets a class, and it is as listed.

@@ -4,6 +4,7 @@ use Rattle.std.specs.List.{list_any}
 use Rattle.ja_base.specs.declared.java_type.Kind.{Kind}
 use Rattle.ja_base.specs.declared.java_type.Kind.TheVariants.{P1, P2, R, T}
 use Rattle.ja_base.specs.declared.java_type.JavaType.{JavaType}
+use Rattle.ja_base.specs.declared.java_type.Desc.{Desc}
 use Rattle.ja_base.specs.Kind.{words_of}
 
 -- one of the letters
@@ -79,3 +80,8 @@ pub record IsMethod (text : List ℕ) (params : List JavaType) (result : Option 
   pub fields : AreFields inner params
   pub most : words_of_all params ≤ 255
   pub ends : IsResult last result
+
+-- the text is the descriptor of a method of these types
+pub record AreTypes (text : List ℕ) (types : Desc) : Type 0 where
+  pub spelled : IsMethod text types.params types.result
+  pub words : types.words ≡ words_of_all types.params

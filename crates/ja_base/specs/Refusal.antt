@@ -1,7 +1,7 @@
 -- The numbers under which refusals are printed.
 use Rattle.std.specs.Prelude.{ℕ}
 use Rattle.ja_base.specs.declared.refusal.Refusal.{Refusal}
-use Rattle.ja_base.specs.declared.refusal.Refusal.TheVariants.{Unbuilt, Archive, TooManyFiles, FileTooLong, TotalTooLong, TableText, TableKey, TableRow, TableEntry, End, BadMagic, BadVersion, BadTag, PoolWidth, BadText, BadIndex, BadDesc, BadAttribute, Trailing, BadOpcode, RefusedOpcode, BadBranch, BadHandler, CodeEnd, BadOperand, PlatformClass, Duplicate, Cycle, CrossPackage, Native, FrameSize, StackDepth, KindClash, FallsOff, Reflection, ThreadStart, LibraryStore, NoField}
+use Rattle.ja_base.specs.declared.refusal.Refusal.TheVariants.{Unbuilt, Archive, TooManyFiles, FileTooLong, TotalTooLong, TableText, TableKey, TableRow, TableEntry, TableCategory, End, BadMagic, BadVersion, BadTag, PoolWidth, BadText, BadIndex, BadDesc, BadAttribute, Trailing, BadOpcode, RefusedOpcode, BadBranch, BadHandler, CodeEnd, BadOperand, PlatformClass, Duplicate, Cycle, CrossPackage, Native, FrameSize, StackDepth, KindClash, FallsOff, Reflection, ThreadStart, LibraryStore, NoField}
 
 -- the number under which a refusal is printed
 abbrev pub number_of : Refusal → ℕ
@@ -14,6 +14,7 @@ number_of TableText = 20
 number_of TableKey = 21
 number_of (TableRow _) = 22
 number_of (TableEntry _) = 23
+number_of TableCategory = 24
 number_of (End _ _) = 30
 number_of (BadMagic _) = 31
 number_of (BadVersion _ _) = 32

@@ -40,3 +40,14 @@ pub struct JavaType {
 
 /// A list of types.
 pub type JavaTypes = Seq<JavaType>;
+
+/// The types of a method, as its descriptor spells them (JVM specification 4.3.3).
+#[derive(Debug, Drop)]
+pub struct Desc {
+    /// The types of the parameters, without a receiver.
+    pub params: JavaTypes,
+    /// The type of the result; none for `V`.
+    pub result: Option<JavaType>,
+    /// The words that the parameters take, without a receiver: at most 255.
+    pub words: u32,
+}

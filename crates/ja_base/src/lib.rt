@@ -1,8 +1,9 @@
-//! What every crate of the analyser speaks of: names, lists, ids, refusals and limits.
+//! What every crate of the analyser speaks of: names, lists, ids, types, refusals and limits, and numbers by name.
 #![tactic(auto)]
 
 mod file;
 mod id;
+mod index;
 mod java_type;
 mod limit;
 mod memory;
@@ -12,7 +13,8 @@ mod seq;
 
 pub use file::{File, Files};
 pub use id::{BlockId, ClassId, FieldId, MethodId, SiteId};
-pub use java_type::{JavaType, JavaTypes, Kind};
+pub use index::NumbersByName;
+pub use java_type::{Desc, JavaType, JavaTypes, Kind};
 pub use limit::{
     MAX_CLASS_FILES, MAX_FILE_BYTES, MAX_FRAME_VALUES, MAX_GENERATED_CLASSES, MAX_SLOTS,
     MAX_TOTAL_BYTES, MAX_VARIABLES, MAX_WORKERS, MIN_SLOTS,

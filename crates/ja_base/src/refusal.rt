@@ -39,6 +39,8 @@ pub enum Refusal {
     TableEntry {
         entry: u64,
     },
+    /// The list of categories of the table file breaks its rules.
+    TableCategory,
     /// The file ends inside the field that begins at `at`.
     End {
         file: Name,
@@ -216,6 +218,7 @@ impl Refusal {
             Refusal::TableKey => 21,
             Refusal::TableRow { .. } => 22,
             Refusal::TableEntry { .. } => 23,
+            Refusal::TableCategory => 24,
             Refusal::End { .. } => 30,
             Refusal::BadMagic { .. } => 31,
             Refusal::BadVersion { .. } => 32,

@@ -3,13 +3,15 @@ pub mod Named
 pub mod Sound
 pub mod Parts
 pub mod Room
+pub mod Quantified
+pub mod Existing
 pub mod Cached
 pub mod Joining
 pub mod Forgetting
 pub mod Shifting
 pub mod Down
+pub mod Producing
 pub mod Picking
 pub mod Learning
 pub mod Renewing
 pub mod Partners
-pub mod Pooled

@@ -12,9 +12,9 @@ use Rattle.ja_node_core.specs.declared.word.Node.{Node}
 use Rattle.ja_bdd.specs.Meaning.{meaning}
 use Rattle.ja_bdd.specs.declared.cache.Joint.TheVariants.{And, Or}
 use Rattle.ja_bdd.specs.declared.cache.Question.{Question}
-use Rattle.ja_bdd.specs.declared.cache.Question.TheVariants.{Join, Forget, Shift}
+use Rattle.ja_bdd.specs.declared.cache.Question.TheVariants.{Join, Forget, Shift, Product}
 use Rattle.ja_bdd.specs.declared.cache.Entry.{Entry}
-use Rattle.ja_bdd.specs.Inner.{joined, IsAnswer, AreRight, is_shift, AsksNothing, IsNothing, IsLeft}
+use Rattle.ja_bdd.specs.Inner.{joined, IsAnswer, AreRight, is_shift, AreShiftsEarly, AsksNothing, IsNothing, IsLeft}
 use Rattle.ja_bdd.proofs.Sound.{Sound, knows_constant}
 use Rattle.ja_bdd.proofs.Joining.{joined_one}
 
@@ -26,12 +26,14 @@ nothing_right k sound r (Join And f g) n none made =
 nothing_right k sound r (Join Or f g) n none made = absurd none
 nothing_right k sound r (Forget f v) n none made = absurd none
 nothing_right k sound r (Shift f) n none made = absurd none
+nothing_right k sound r (Product f g c) n none made = absurd none
 
 -- an answer of no renaming is right for any
 other_right : (m : ℕ → ℕ) (k : Words) (q : Question) (n : Node) → is_shift q ≡ false → IsAnswer None k q n → IsAnswer (Some m) k q n
 other_right m k (Join j f g) n other is = is
 other_right m k (Forget f v) n other is = is
 other_right m k (Shift f) n other is = absurd (false≢true (sym other))
+other_right m k (Product f g c) n other is = is
 
 left_right : (m : ℕ → ℕ) (k : Words) → Sound k → (old new : List Entry) → AreRight None k old → ((i : ℕ) (e : Entry) → slice_get new i ≡ Some e → IsLeft old i e) → AreRight (Some m) k new
 left_right m k sound old new right left i e at = ⊎_elim (λ is. nothing_right k sound (Some m) e.asked e.made is.0 is.1) (λ t. other_right m k e.asked e.made t.1 (right i e t.0)) (left i e at)
@@ -41,12 +43,23 @@ pub any_right : (m : ℕ → ℕ) (k : Words) (q : Question) (n : Node) → IsAn
 any_right m k (Join j f g) n is = is
 any_right m k (Forget f v) n is = is
 any_right m k (Shift f) n is = (is.0, tt)
+any_right m k (Product f g c) n is = is
 
 pub renewed : (m : ℕ → ℕ) (k : Words) → Sound k → (old new : List Entry) → ∥ AreRight None k old ∥₁ → ((i : ℕ) (e : Entry) → slice_get new i ≡ Some e → IsLeft old i e) → ∥ AreRight (Some m) k new ∥₁
 renewed m k sound old new right left = ∥∥₁_elim right ∥∥₁_prop (λ all. ∣ left_right m k sound old new all left ∣₁)
 
 pub renewed_plain : (k : Words) → Sound k → (old new : List Entry) → ∥ AreRight None k old ∥₁ → ((i : ℕ) (e : Entry) → slice_get new i ≡ Some e → IsLeft old i e) → ∥ AreRight None k new ∥₁
 renewed_plain k sound old new right left = ∥∥₁_elim (renewed (λ v. v) k sound old new right left) ∥∥₁_prop (λ all. ∣ (λ i e at. any_right (λ v. v) k e.asked e.made (all i e at)) ∣₁)
+
+nothing_shift : (q : Question) → AsksNothing q → is_shift q ≡ false
+nothing_shift (Join And f g) none = refl
+nothing_shift (Join Or f g) none = absurd none
+nothing_shift (Forget f v) none = absurd none
+nothing_shift (Shift f) none = absurd none
+nothing_shift (Product f g c) none = absurd none
+
+pub early_left : (old new : List Entry) → ((i : ℕ) (e : Entry) → slice_get new i ≡ Some e → IsLeft old i e) → AreShiftsEarly new
+early_left old new left i e at le = ⊎_elim (λ nothing. nothing_shift e.asked nothing.0) (λ t. t.1) (left i e at)
 
 -- how far the entries were gone through: those before i are left, and the others are as they were
 abbrev pub IsThrough : List Entry → ℕ → List Entry → Type 0

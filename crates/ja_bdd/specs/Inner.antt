@@ -1,14 +1,16 @@
 -- Words of the private functions: what the cache holds, and how far a recursion is from its end.
-use Rattle.std.specs.Prelude.{◌≡◌, ℕ, ◌-◌, ◌*◌, ◌<◌, ◌&&◌, ◌||◌, ◌⊎◌, min, max, Bool, true, false, List, Option, None, Some, slice_get, slice_set}
+use Rattle.std.specs.Prelude.{◌≡◌, ℕ, ◌-◌, ◌*◌, ◌<◌, ◌≤◌, ◌&&◌, ◌||◌, ◌⊎◌, min, max, Bool, true, false, List, Option, None, Some, slice_get, slice_set}
 use Rattle.ja_node_core.specs.Word.{var_of}
 use Rattle.ja_node_core.specs.Node.{Words, Knows, constant}
 use Rattle.ja_node_core.specs.declared.word.Node.{Node}
-use Rattle.ja_bdd.specs.Functions.{Function, forgotten, renamed}
-use Rattle.ja_bdd.specs.Meaning.{meaning}
+use Rattle.ja_bdd.specs.Functions.{Function, fixed, forgotten, renamed, IsFrom}
+use Rattle.ja_bdd.specs.Meaning.{meaning, IsMeant}
+use Rattle.ja_bdd.specs.declared.copies.Copies.{Copies}
+use Rattle.ja_bdd.specs.Copies.{in_copies, all_forgotten}
 use Rattle.ja_bdd.specs.declared.cache.Joint.{Joint}
 use Rattle.ja_bdd.specs.declared.cache.Joint.TheVariants.{And, Or}
 use Rattle.ja_bdd.specs.declared.cache.Question.{Question}
-use Rattle.ja_bdd.specs.declared.cache.Question.TheVariants.{Join, Forget, Shift}
+use Rattle.ja_bdd.specs.declared.cache.Question.TheVariants.{Join, Forget, Shift, Product}
 use Rattle.ja_bdd.specs.declared.cache.Entry.{Entry}
 
 abbrev pub join_bits : Joint → Bool → Bool → Bool
@@ -42,6 +44,7 @@ abbrev pub IsAbout : Option (ℕ → ℕ) → Words → Question → Function �
 IsAbout r k (Join j f g) φ = Knows k f.number × Knows k g.number × (joined j (meaning k f.number) (meaning k g.number) ≡ φ)
 IsAbout r k (Forget f v) φ = Knows k f.number × (forgotten v (meaning k f.number) ≡ φ)
 IsAbout r k (Shift f) φ = IsShifted r k f.number φ
+IsAbout r k (Product f g c) φ = Knows k f.number × Knows k g.number × (all_forgotten (in_copies c) (joined And (meaning k f.number) (meaning k g.number)) ≡ φ)
 
 abbrev pub IsAnswer : Option (ℕ → ℕ) → Words → Question → Node → Type 0
 IsAnswer r k q n = Knows k n.number × IsAbout r k q (meaning k n.number)
@@ -49,6 +52,9 @@ IsAnswer r k q n = Knows k n.number × IsAbout r k q (meaning k n.number)
 -- each entry is right, where a renaming that is asked for is this one
 abbrev pub AreRight : Option (ℕ → ℕ) → Words → List Entry → Type 0
 AreRight r k es = (i : ℕ) (e : Entry) → slice_get es i ≡ Some e → IsAnswer r k e.asked e.made
+
+abbrev pub AreSameCopies : Copies → Copies → Type 0
+AreSameCopies c d = (c.at_entry ≡ d.at_entry) × (c.at_present ≡ d.at_present) × (c.at_next ≡ d.at_next) × (c.at_callee ≡ d.at_callee)
 
 -- the same was asked
 abbrev pub IsSame : Question → Question → Type 0
@@ -61,6 +67,13 @@ IsSame (Forget f v) (Shift a) = ⊥
 IsSame (Shift f) (Join k a b) = ⊥
 IsSame (Shift f) (Forget a u) = ⊥
 IsSame (Shift f) (Shift a) = f.number ≡ a.number
+IsSame (Join j f g) (Product a b d) = ⊥
+IsSame (Forget f v) (Product a b d) = ⊥
+IsSame (Shift f) (Product a b d) = ⊥
+IsSame (Product f g c) (Join k a b) = ⊥
+IsSame (Product f g c) (Forget a u) = ⊥
+IsSame (Product f g c) (Shift a) = ⊥
+IsSame (Product f g c) (Product a b d) = (f.number ≡ a.number) × (g.number ≡ b.number) × AreSameCopies c d
 
 -- the cache has this answer to the question
 abbrev pub HasAnswer : List Entry → Question → Node → Type 0
@@ -84,11 +97,23 @@ pub record IsOpen (k : Words) (j : Joint) (f g f' g' : ℕ) : Type 0 where
   pub same : joined j (meaning k f') (meaning k g') ≡ joined j (meaning k f) (meaning k g)
   pub depth : depth_of_both k f' g' ≡ depth_of_both k f g
 
+-- two nodes are what is left of the parts of the conjunction of f and g, cut at a variable before which it does not look, where all variables that go are forgotten
+pub record ArePieces (k : Words) (goes : ℕ → Bool) (f g v low high : ℕ) : Type 0 where
+  pub known : Knows k f × Knows k g
+  pub from : IsFrom v (joined And (meaning k f) (meaning k g))
+  pub where_false : IsMeant k low (all_forgotten goes (fixed v false (joined And (meaning k f) (meaning k g))))
+  pub where_true : IsMeant k high (all_forgotten goes (fixed v true (joined And (meaning k f) (meaning k g))))
+
 -- whether a renaming was asked for
 abbrev pub is_shift : Question → Bool
 is_shift (Join j f g) = false
 is_shift (Forget f v) = false
 is_shift (Shift f) = true
+is_shift (Product f g c) = false
+
+-- answers to renamings stand at the first places alone
+abbrev pub AreShiftsEarly : List Entry → Type 0
+AreShiftsEarly es = (i : ℕ) (e : Entry) → slice_get es i ≡ Some e → 4096 ≤ i → is_shift e.asked ≡ false
 
 -- the constant false twice was to be conjoined
 abbrev pub AsksNothing : Question → Type 0
@@ -96,6 +121,7 @@ AsksNothing (Join And f g) = (f.number ≡ 0) × (g.number ≡ 0)
 AsksNothing (Join Or f g) = ⊥
 AsksNothing (Forget f v) = ⊥
 AsksNothing (Shift f) = ⊥
+AsksNothing (Product f g c) = ⊥
 
 -- the entry says that the constant false with itself is the constant false
 abbrev pub IsNothing : Entry → Type 0

@@ -1,7 +1,13 @@
+ghost use Rattle.std.specs.Prelude.{◌<◌, ◌≤◌};
+
+use crate::copies::Copies;
 use ja_node_table::Node;
 
-/// How many entries a cache has.
+/// How many entries a cache has, where nothing else was chosen.
 pub const ENTRIES: usize = 1_024;
+
+/// How many places of a cache may have answers to renamings.
+pub const SHIFT_ENTRIES: usize = 4_096;
 
 /// The golden ratio of 2^64, whose products have well mixed upper bits.
 const MIXER: u64 = 0x9e37_79b9_7f4a_7c15;
@@ -33,6 +39,7 @@ pub enum Question {
     Join(Joint, Node, Node),
     Forget(Node, u32),
     Shift(Node),
+    Product(Node, Node, Copies),
 }
 
 /// A question with its answer.
@@ -49,7 +56,7 @@ pub const NOTHING: Entry = Entry {
 };
 
 impl Question {
-    ghost use Rattle.std.specs.Prelude.{◌≡◌, ◌<◌, IsTrue};
+    ghost use Rattle.std.specs.Prelude.{◌≡◌, ◌<◌, ◌≤◌, true, IsTrue};
     ghost use Rattle.ja_bdd.specs.Inner.{is_shift, IsSame};
 
     /// Whether a renaming was asked for.
@@ -71,21 +78,41 @@ impl Question {
                 f.number == a.number && var == other
             }
             (Question::Shift(f), Question::Shift(a)) => f.number == a.number,
+            (Question::Product(f, g, copies), Question::Product(a, b, others)) => {
+                f.number == a.number && g.number == b.number && copies.is_one(others)
+            }
             _ => false,
         }
     }
 
-    /// The one place of a cache where the answer may be kept.
-    pub fn place(self) -> usize
-        ensures { result < 1024 }
+    /// The one place of a cache of so many entries where the answer may be kept.
+    pub fn place(self, entries: usize) -> usize
+        requires { (1 ≤ entries) × (entries ≤ 1048576) }
+        ensures within { result < entries }
+        ensures early { is_shift self ≡ true → result < 4096 }
     {
         let (kind, first, second) = match self {
             Question::Join(Joint::And, f, g) => (0, f.number, g.number),
             Question::Join(Joint::Or, f, g) => (1, f.number, g.number),
             Question::Forget(f, var) => (2, f.number, var),
             Question::Shift(f) => (3, f.number, 0),
+            Question::Product(f, g, _) => (4, f.number, g.number),
         };
-        let key = u64::from(first) << 34 ^ u64::from(second) << 2 ^ kind;
-        (key.wrapping_mul(MIXER) >> 54) as usize
+        let key = u64::from(first) << 34 ^ u64::from(second) << 3 ^ kind;
+        let room = if self.is_shift() {
+            entries.min(SHIFT_ENTRIES)
+        } else {
+            entries
+        };
+        scaled(key.wrapping_mul(MIXER) >> 32, room)
     }
+}
+
+/// So much of the numbers below `entries`, as a 32 bit number is of all of these.
+fn scaled(upper: u64, entries: usize) -> usize
+    requires upper { upper < 4294967296 }
+    requires entries { (1 ≤ entries) × (entries ≤ 1048576) }
+    ensures { result < entries }
+{
+    (upper * entries as u64 >> 32) as usize
 }

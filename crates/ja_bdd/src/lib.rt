@@ -4,19 +4,21 @@
 mod assign;
 mod build;
 mod cache;
+mod copies;
 mod exists;
 mod join;
+mod law;
 mod pick;
+mod product;
 mod renaming;
 mod shift;
 mod worker;
 
 pub use assign::Assign;
+pub use copies::Copies;
+pub use law::law_forgotten;
 pub use renaming::Renaming;
 pub use worker::Worker;
 
 /// A list of nodes.
 pub type Roots = ja_base::Seq<ja_node_table::Node>;
-
-#[cfg(test)]
-mod tests;

@@ -5,10 +5,10 @@ ghost use Rattle.ja_bdd.specs.Functions.{renamed, KeepsOrder, IsAimed};
 ghost use Rattle.ja_bdd.specs.Meaning.{meaning, IsMeant, Keeps};
 ghost use Rattle.ja_bdd.specs.Room.{LacksRoomUnder};
 ghost use Rattle.ja_bdd.specs.Variables.{partner_of};
-ghost use Rattle.ja_bdd.specs.Inner.{AreRight, is_shift, IsNothing, IsLeft};
+ghost use Rattle.ja_bdd.specs.Inner.{AreRight, AreShiftsEarly, is_shift, IsNothing, IsLeft};
 ghost use Rattle.ja_bdd.specs.Workers.{IsWorkerOf, seen};
 
-use crate::cache::{Entry, NOTHING, Question};
+use crate::cache::{Entry, NOTHING, Question, SHIFT_ENTRIES};
 use crate::renaming::Renaming;
 use crate::worker::Worker;
 use ja_node_core::Aim;
@@ -27,10 +27,11 @@ fn without_shift(entry: Entry) -> Entry
 
 /// Takes the answers to renamings out of a cache.
 fn drop_shifts(cache: &mut Vec<Entry>)
+    requires { AreShiftsEarly cache.old.items }
     ensures length { length cache.new.items ≡ length cache.old.items }
     ensures left { (i : ℕ) (e : Entry) → slice_get cache.new.items i ≡ Some e → IsLeft cache.old.items i e }
 {
-    for i in 0..cache.len() {
+    for i in 0..cache.len().min(SHIFT_ENTRIES) {
         cache[i] = without_shift(cache[i]);
     }
 }

@@ -1,6 +1,6 @@
-ghost use Rattle.std.specs.Prelude.{◌≡◌, None, length};
+ghost use Rattle.std.specs.Prelude.{◌≤◌, None, length};
 ghost use Rattle.ja_node_table.specs.Seats.{known};
-ghost use Rattle.ja_bdd.specs.Inner.{AreRight};
+ghost use Rattle.ja_bdd.specs.Inner.{AreRight, AreShiftsEarly};
 
 use crate::build::build;
 use crate::cache::{ENTRIES, Entry, NOTHING};
@@ -10,12 +10,14 @@ use std::alloc::Global;
 
 /// One thread's part of a table: a seat, and a lossy cache of answers.
 ///
-/// None of its calls waits, and none but `new` takes memory.
+/// None of its calls waits, and none but `new` and `with_cache` takes memory.
 #[derive(Drop)]
 pub struct Worker<A: Aim> {
     pub(crate) seat: NodeSeat<A>,
     pub(crate) cache: Vec<Entry>,
-    ghost counted: { length cache.items ≡ 1024 },
+    ghost counted: { (1 ≤ length cache.items) × (length cache.items ≤ 1048576) },
+    // Answers to renamings stand at the first places alone, so that few are gone through to take them out.
+    ghost early: { AreShiftsEarly cache.items },
     ghost right: { ∥ AreRight None (known seat) cache.items ∥₁ },
 }
 
@@ -36,7 +38,20 @@ impl<A: Aim> Worker<A> {
         ensures worker { IfOk result (λ w. (worker_home w ≡ seat_home seat) × (seen w ≡ known seat)) }
         ensures memory { IfErr result (λ s. s ≡ seat) }
     {
-        match Vec::from_elem(alloc, NOTHING, ENTRIES) {
+        Worker::with_cache(alloc, seat, ENTRIES)
+    }
+
+    /// The same, with a cache of so many entries, at most 2^20.
+    pub fn with_cache(
+        alloc: Global,
+        seat: NodeSeat<A>,
+        entries: usize,
+    ) -> Result<Worker<A>, NodeSeat<A>>
+        requires entries { (1 ≤ entries) × (entries ≤ 1048576) }
+        ensures worker { IfOk result (λ w. (worker_home w ≡ seat_home seat) × (seen w ≡ known seat)) }
+        ensures memory { IfErr result (λ s. s ≡ seat) }
+    {
+        match Vec::from_elem(alloc, NOTHING, entries) {
             Ok(cache) => Ok(Worker { seat, cache }),
             Err(_) => Err(seat),
         }

@@ -6,19 +6,8 @@ ghost use Rattle.ja_bytes.specs.Longest.{IsWrongAt, IsStuck};
 ghost use Rattle.ja_bytes.specs.DescriptorText.{IsFieldText, IsFieldDesc, IsResultText, IsMethodText, IsParamsText, SpellsParams, name_of};
 
 use crate::type_text::type_len;
-use ja_base::{JavaType, JavaTypes, Kind, Memory, Name};
+use ja_base::{Desc, JavaType, JavaTypes, Kind, Memory, Name};
 use std::alloc::Global;
-
-/// The types of a method.
-#[derive(Debug, Drop)]
-pub struct Desc {
-    /// The types of the parameters, without a receiver.
-    pub params: JavaTypes,
-    /// The type of the result; none for `V`.
-    pub result: Option<JavaType>,
-    /// The words that the parameters take, without a receiver: at most 255.
-    pub words: u32,
-}
 
 /// Why bytes are not read as a descriptor.
 #[derive(Clone, Copy, PartialEq, Eq, Debug)]

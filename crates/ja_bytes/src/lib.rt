@@ -8,9 +8,6 @@ mod text;
 mod type_text;
 
 pub use cursor::{Cursor, End};
-pub use descriptor::{Desc, DescFault, field_desc, method_desc};
+pub use descriptor::{DescFault, field_desc, method_desc};
 pub use law::{law_one_reading, law_right_or_wrong};
 pub use text::{BadText, modified_utf8};
-
-#[cfg(test)]
-mod tests;

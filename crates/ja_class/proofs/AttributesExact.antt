@@ -2,14 +2,14 @@
 use Rattle.std.proofs.Common.{ℕ, ◌⊎◌, inl, inr, Bool}
 use Rattle.ja_bytes.specs.Reading.{Reading}
 use Rattle.ja_pool.specs.Table.{Table}
-use Rattle.ja_attr.specs.Part.{Part, IsExact}
-use Rattle.ja_attr.specs.Attribute.{PassesAny, PassesField, PassesMethod}
-use Rattle.ja_attr.specs.Faults as judged
-use Rattle.ja_attr.proofs.Exact as exact
-use Rattle.ja_attr.proofs.Lists.{any_spelled, spelled_any}
-use Rattle.ja_attr.proofs.FieldGrammar.{field_spelled, spelled_field}
-use Rattle.ja_attr.proofs.MethodGrammar.{method_spelled, spelled_method}
-use Rattle.ja_attr.proofs.Parts.{renamed_exact}
+use Rattle.ja_attributes.specs.Part.{Part, IsExact}
+use Rattle.ja_attributes.specs.Attribute.{PassesAny, PassesField, PassesMethod}
+use Rattle.ja_attributes.specs.Faults as judged
+use Rattle.ja_attributes.proofs.Exact as exact
+use Rattle.ja_attributes.proofs.Lists.{any_spelled, spelled_any}
+use Rattle.ja_attributes.proofs.FieldGrammar.{field_spelled, spelled_field}
+use Rattle.ja_attributes.proofs.MethodGrammar.{method_spelled, spelled_method}
+use Rattle.ja_attributes.proofs.Parts.{renamed_exact}
 use Rattle.ja_class.specs.Faults.{outside_fault, method_fault}
 use Rattle.ja_class.specs.Meaning.{needs_code}
 use Rattle.ja_class.specs.ClassFault.{field_attributes, method_attributes, class_attributes}

@@ -4,8 +4,8 @@ use Rattle.ja_bytes.specs.Reading.{Reading}
 use Rattle.ja_pool.specs.declared.fault.PoolFault.{PoolFault}
 use Rattle.ja_pool.specs.declared.fault.PoolFault.TheVariants as pool
 use Rattle.ja_pool.specs.Shape.{OrMemory}
-use Rattle.ja_attr.specs.Part.{Part, u2, times}
-use Rattle.ja_attr.proofs.Completes.{Completes, times_stop, times_done}
+use Rattle.ja_attributes.specs.Part.{Part, u2, times}
+use Rattle.ja_attributes.proofs.Completes.{Completes, times_stop, times_done}
 use Rattle.ja_class.specs.declared.fault.ClassFault.{ClassFault}
 use Rattle.ja_class.specs.declared.fault.ClassFault.TheVariants.{End, Memory}
 use Rattle.ja_class.specs.Faults.{pool_fault}

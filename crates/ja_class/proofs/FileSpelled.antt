@@ -8,7 +8,7 @@ use Rattle.ja_bytes.specs.Reading.{Reading, Passes}
 use Rattle.ja_pool.specs.Entry.{Entry, IsEntry, spelling as entry_bytes}
 use Rattle.ja_pool.specs.Table.{Table, tags_of, first_wrong, class_name_at}
 use Rattle.ja_pool.specs.Pool.{table_of, PassesPool}
-use Rattle.ja_attr.specs.Attribute.{attributes_bytes, PassesAny}
+use Rattle.ja_attributes.specs.Attribute.{attributes_bytes, PassesAny}
 use Rattle.ja_ir.specs.declared.head.HeadMethod.{HeadMethod}
 use Rattle.ja_class.specs.declared.class.ClassMethod.{ClassMethod}
 use Rattle.ja_class.specs.declared.head.ClassNames.{ClassNames}

@@ -6,10 +6,10 @@ use Rattle.std.proofs.lemmas.Bool.{eqb-true, eq-eqb, not-true, not_from_false}
 use Rattle.std.proofs.lemmas.List.{append-nil}
 use Rattle.ja_bytes.specs.Reading.{Reading, Passes}
 use Rattle.ja_pool.specs.Table.{Table, tag_at, class_name_at}
-use Rattle.ja_attr.specs.Part.{times, fold}
-use Rattle.ja_attr.specs.Attribute.{PassesField, PassesMethod, SayCode, named, attributes_bytes}
+use Rattle.ja_attributes.specs.Part.{times, fold}
+use Rattle.ja_attributes.specs.Attribute.{PassesField, PassesMethod, SayCode, named, attributes_bytes}
 use Rattle.ja_pool.proofs.PayloadParts.{passes_both}
-use Rattle.ja_attr.proofs.Parts.{reading_is}
+use Rattle.ja_attributes.proofs.Parts.{reading_is}
 use Rattle.ja_ir.specs.declared.head.HeadField.{HeadField}
 use Rattle.ja_ir.specs.declared.head.HeadMethod.{HeadMethod}
 use Rattle.ja_class.specs.declared.class.ClassMethod.{ClassMethod}

@@ -12,8 +12,8 @@ use Rattle.ja_pool.specs.Table.{Table, entry_place, tag_at, text_at, class_name_
 use Rattle.ja_pool.specs.Pool.{PassesPool, IsFirstFault}
 use Rattle.ja_pool.proofs.OneReading.{pool_unique, pool_no_fault}
 use Rattle.ja_pool.proofs.Exact.{pool_or_fault, one_pool_fault}
-use Rattle.ja_attr.specs.Part.{Part, IsExact}
-use Rattle.ja_attr.proofs.Parts.{both, value_exact, here_exact, check_exact, at_end_exact, u2_exact, u4_exact, stays_at, times_exact, fold_exact, renamed_exact}
+use Rattle.ja_attributes.specs.Part.{Part, IsExact}
+use Rattle.ja_attributes.proofs.Parts.{both, value_exact, here_exact, check_exact, at_end_exact, u2_exact, u4_exact, stays_at, times_exact, fold_exact, renamed_exact}
 use Rattle.ja_class.specs.declared.fault.ClassFault.{ClassFault}
 use Rattle.ja_class.specs.declared.fault.ClassFault.TheVariants.{End, BadMagic, BadVersion, BadIndex, BadDesc, Trailing}
 use Rattle.ja_class.specs.Faults.{pool_fault}

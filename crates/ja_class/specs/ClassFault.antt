@@ -4,10 +4,10 @@ use Rattle.std.specs.Prelude.{◌≡◌, ℕ, ⊤, not, List, [], ◌∷◌, ◌
 use Rattle.ja_bytes.specs.DescriptorText.{IsFieldDesc}
 use Rattle.ja_pool.specs.Table.{Table, Placed, entry_place, tag_at, text_at, class_name_at}
 use Rattle.ja_pool.specs.Pool.{PassesPool, IsFirstFault}
-use Rattle.ja_attr.specs.Part.{Part, value, here, check, at_end, u2, u4, ◌>>=◌, times, fold, renamed}
-use Rattle.ja_attr.specs.declared.code.MethodCode.{MethodCode}
-use Rattle.ja_attr.specs.Attribute.{PassesAny, PassesField, PassesMethod}
-use Rattle.ja_attr.specs.Faults.{IsAnyFault, IsFieldFault, IsMethodFault}
+use Rattle.ja_attributes.specs.Part.{Part, value, here, check, at_end, u2, u4, ◌>>=◌, times, fold, renamed}
+use Rattle.ja_attributes.specs.declared.code.MethodCode.{MethodCode}
+use Rattle.ja_attributes.specs.Attribute.{PassesAny, PassesField, PassesMethod}
+use Rattle.ja_attributes.specs.Faults.{IsAnyFault, IsFieldFault, IsMethodFault}
 use Rattle.ja_ir.specs.declared.head.HeadField.{HeadField}
 use Rattle.ja_class.specs.declared.head.ClassNames.{ClassNames}
 use Rattle.ja_class.specs.declared.member.Front.{Front}

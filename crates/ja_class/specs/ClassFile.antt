@@ -6,8 +6,8 @@ use Rattle.ja_bytes.specs.DescriptorText.{IsFieldDesc}
 use Rattle.ja_pool.specs.Entry.{Entry, IsEntry, spelling as entry_bytes}
 use Rattle.ja_pool.specs.Table.{Table, tags_of, first_wrong, tag_at, text_at, class_name_at}
 use Rattle.ja_pool.specs.Pool.{table_of}
-use Rattle.ja_attr.specs.Attribute.{AttributeInfo, attributes_bytes, IsAttribute, named, SayConstant, SayCode}
-use Rattle.ja_attr.specs.declared.code.MethodCode.{MethodCode}
+use Rattle.ja_attributes.specs.Attribute.{AttributeInfo, attributes_bytes, IsAttribute, named, SayConstant, SayCode}
+use Rattle.ja_attributes.specs.declared.code.MethodCode.{MethodCode}
 use Rattle.ja_ir.specs.declared.head.HeadField.{HeadField}
 use Rattle.ja_ir.specs.declared.head.HeadMethod.{HeadMethod}
 use Rattle.ja_class.specs.declared.class.ClassMethod.{ClassMethod}

@@ -4,8 +4,8 @@ use Rattle.ja_pool.specs.declared.fault.PoolFault.{PoolFault}
 use Rattle.ja_pool.specs.declared.fault.PoolFault.TheVariants as pool
 use Rattle.ja_code.specs.declared.fault.CodeFault.{CodeFault}
 use Rattle.ja_code.specs.declared.fault.CodeFault.TheVariants as code
-use Rattle.ja_attr.specs.declared.fault.AttributeFault.{AttributeFault}
-use Rattle.ja_attr.specs.declared.fault.AttributeFault.TheVariants as attribute
+use Rattle.ja_attributes.specs.declared.fault.AttributeFault.{AttributeFault}
+use Rattle.ja_attributes.specs.declared.fault.AttributeFault.TheVariants as attribute
 use Rattle.ja_class.specs.declared.fault.ClassFault.{ClassFault}
 use Rattle.ja_class.specs.declared.fault.ClassFault.TheVariants.{End, BadTag, PoolWidth, BadText, BadIndex, BadAttribute, BadOpcode, RefusedOpcode, BadBranch, BadHandler, CodeEnd, BadOperand, Memory}
 

@@ -4,7 +4,7 @@ use Rattle.ja_pool.specs.Table.{Table, tag_at, text_at, class_name_at}
 use Rattle.ja_ir.specs.declared.head.HeadField.{HeadField}
 use Rattle.ja_ir.specs.declared.head.HeadMethod.{HeadMethod}
 use Rattle.ja_ir.specs.declared.head.ClassHead.{ClassHead}
-use Rattle.ja_attr.specs.declared.code.MethodCode.{MethodCode}
+use Rattle.ja_attributes.specs.declared.code.MethodCode.{MethodCode}
 use Rattle.ja_class.specs.declared.class.ClassMethod.{ClassMethod}
 
 -- a class: what its file says of it apart from code, its constant pool, and its methods in their order

@@ -1,7 +1,7 @@
 //! Whole class files (JVM specification 4.1).
 
 ghost use Rattle.std.specs.Prelude.{◌≡◌, ◌⊎◌, IfOk, IfErr, MatchResult};
-ghost use Rattle.ja_attr.specs.Part.{Reads, ReadsUnless};
+ghost use Rattle.ja_attributes.specs.Part.{Reads, ReadsUnless};
 ghost use Rattle.ja_class.specs.declared.fault.ClassFault.{ClassFault};
 ghost use Rattle.ja_class.specs.declared.fault.ClassFault.TheVariants as faults;
 ghost use Rattle.ja_class.specs.Meaning.{ClassSpelled};
@@ -15,7 +15,7 @@ use crate::fault::attribute_fault;
 use crate::field::fields;
 use crate::head::{magic, names, version};
 use crate::method::methods;
-use ja_attr::skip_attributes;
+use ja_attributes::skip_attributes;
 use ja_bytes::Cursor;
 use ja_ir::ClassHead;
 use ja_pool::{Pool, read_pool};

@@ -3,7 +3,7 @@
 ghost use Rattle.std.specs.Prelude.{◌≡◌, ◌≢◌, slice_index_or, None, IfOk, MatchBool};
 ghost use Rattle.ja_bytes.specs.Reading.{Reading};
 ghost use Rattle.ja_bytes.specs.DescriptorText.{IsFieldDesc, IsMethodText};
-ghost use Rattle.ja_attr.specs.Part.{ReadsUnless};
+ghost use Rattle.ja_attributes.specs.Part.{ReadsUnless};
 ghost use Rattle.ja_class.specs.declared.fault.ClassFault.TheVariants as faults;
 ghost use Rattle.ja_class.specs.Member.{HasDescriptor, IsMethodDesc, receiver_words};
 ghost use Rattle.ja_class.specs.ClassFault.{descriptors};

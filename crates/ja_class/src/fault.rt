@@ -2,7 +2,7 @@ ghost use Rattle.std.specs.Prelude.{◌≡◌};
 ghost use Rattle.ja_class.specs.Faults.{pool_fault, code_fault, method_fault};
 ghost use Rattle.ja_class.specs.declared.fault.ClassFault.TheVariants as faults;
 
-use ja_attr::AttributeFault;
+use ja_attributes::AttributeFault;
 use ja_base::Memory;
 use ja_bytes::End;
 use ja_code::CodeFault;

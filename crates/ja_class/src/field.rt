@@ -2,7 +2,7 @@
 
 ghost use Rattle.std.specs.Prelude.{◌≡◌, IfOk};
 ghost use Rattle.ja_pool.specs.Table.{tag_at};
-ghost use Rattle.ja_attr.specs.Part.{ReadsUnless};
+ghost use Rattle.ja_attributes.specs.Part.{ReadsUnless};
 ghost use Rattle.ja_class.specs.declared.fault.ClassFault.TheVariants as faults;
 ghost use Rattle.ja_class.specs.Meaning.{begins_as_text, field_said};
 ghost use Rattle.ja_class.specs.ClassFault.{field_front, field, fields};
@@ -12,7 +12,7 @@ use crate::descriptor::is_field_desc;
 use crate::fault::attribute_fault;
 use crate::member::{Front, front_of};
 use crate::number::u2;
-use ja_attr::field_attributes;
+use ja_attributes::field_attributes;
 use ja_base::{Memory, Name};
 use ja_bytes::Cursor;
 use ja_ir::{HeadField, HeadFields};

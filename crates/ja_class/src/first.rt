@@ -9,8 +9,6 @@ mod layout;
 mod names;
 mod pool;
 mod reader;
-#[cfg(test)]
-pub(crate) mod tests;
 
 use constant::Constant;
 use ja_base::{Name, Seq};

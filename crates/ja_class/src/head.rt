@@ -2,7 +2,7 @@
 
 ghost use Rattle.std.specs.Prelude.{◌≡◌, IfOk};
 ghost use Rattle.ja_pool.specs.Table.{tag_at};
-ghost use Rattle.ja_attr.specs.Part.{Reads, ReadsUnless};
+ghost use Rattle.ja_attributes.specs.Part.{Reads, ReadsUnless};
 ghost use Rattle.ja_class.specs.declared.fault.ClassFault.TheVariants as faults;
 ghost use Rattle.ja_class.specs.Member.{is_array, is_super};
 ghost use Rattle.ja_class.specs.Meaning.{super_said};

@@ -1,5 +1,5 @@
 ghost use Rattle.std.specs.Prelude.{◌≡◌, ◌⊎◌, ℕ, List};
-ghost use Rattle.ja_attr.specs.Part.{AreBytes};
+ghost use Rattle.ja_attributes.specs.Part.{AreBytes};
 ghost use Rattle.ja_class.specs.declared.fault.ClassFault.{ClassFault};
 ghost use Rattle.ja_class.specs.Meaning.{ClassSpelled};
 ghost use Rattle.ja_class.specs.ClassFile.{IsClass};

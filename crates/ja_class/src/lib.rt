@@ -20,6 +20,3 @@ pub use first::{
     FirstCode, FirstFault, FirstInstr, FirstMethod, FirstOp, first_form_is_one, read_first,
 };
 pub use law::law_spelled_or_refused;
-
-#[cfg(test)]
-mod tests;

@@ -2,7 +2,7 @@
 
 ghost use Rattle.std.specs.Prelude.{◌≡◌, IfOk};
 ghost use Rattle.ja_pool.specs.Table.{tag_at};
-ghost use Rattle.ja_attr.specs.Part.{Reads};
+ghost use Rattle.ja_attributes.specs.Part.{Reads};
 ghost use Rattle.ja_class.specs.ClassFault.{front};
 
 use crate::ClassFault;

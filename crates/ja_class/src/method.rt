@@ -2,7 +2,7 @@
 
 ghost use Rattle.std.specs.Prelude.{◌≡◌, ◌<◌, ◌^◌, length, IfOk};
 ghost use Rattle.ja_pool.specs.Table.{tag_at};
-ghost use Rattle.ja_attr.specs.Part.{ReadsUnless};
+ghost use Rattle.ja_attributes.specs.Part.{ReadsUnless};
 ghost use Rattle.ja_class.specs.declared.fault.ClassFault.TheVariants as faults;
 ghost use Rattle.ja_class.specs.Meaning.{needs_code, method_said, code_said};
 ghost use Rattle.ja_class.specs.ClassFault.{method_front, method, methods};
@@ -13,7 +13,7 @@ use crate::descriptor::is_method_desc;
 use crate::fault::attribute_fault;
 use crate::member::{Front, front_of};
 use crate::number::u2;
-use ja_attr::{MethodCode, method_attributes};
+use ja_attributes::{MethodCode, method_attributes};
 use ja_base::{Memory, Name};
 use ja_bytes::Cursor;
 use ja_ir::{HeadMethod, HeadMethods};

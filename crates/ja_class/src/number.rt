@@ -2,7 +2,7 @@
 
 ghost use Rattle.std.specs.Prelude.{◌≡◌, IfOk};
 ghost use Rattle.ja_pool.specs.Table.{tag_at};
-ghost use Rattle.ja_attr.specs.Part.{Reads, u2 as two_bytes, u4 as four_bytes};
+ghost use Rattle.ja_attributes.specs.Part.{Reads, u2 as two_bytes, u4 as four_bytes};
 ghost use Rattle.ja_class.specs.declared.fault.ClassFault.TheVariants.{End};
 ghost use Rattle.ja_class.specs.ClassFault.{index as entry_index};
 

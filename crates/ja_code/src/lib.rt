@@ -19,6 +19,3 @@ pub use handler::{RawHandler, RawHandlers};
 pub use instr::{RawInstr, RawInstrs};
 pub use law::{law_branch_targets, law_spelled_or_refused};
 pub use opcode::{Entry, Form, form_of, is_refused_opcode, mnemonic_of, opcode_of};
-
-#[cfg(test)]
-mod tests;

@@ -12,21 +12,24 @@ use Rattle.ja_ir.specs.declared.op.CallOp.{CallOp}
 use Rattle.ja_ir.specs.declared.op.Op.{Op}
 use Rattle.ja_ir.specs.declared.op.Op.TheVariants.{Load, Store, GetStatic, PutStatic, Call}
 use Rattle.ja_ir.specs.Lookup.{OpAt, Leads, instr_at, is_member}
-use Rattle.ja_ir.specs.Entries.{is_initializer}
 use Rattle.ja_ir.specs.declared.row.RowEffect.{RowEffect}
 use Rattle.ja_ir.specs.Operations.{arguments, is_dispatched}
 use Rattle.ja_facts.specs.Least.{Each}
-use Rattle.ja_facts.specs.Slots.{Slot, Local, OnStack, Copies, CallAt, kept_local, kept_stack, loaded, stored, shuffled, checked, IsReferenceParam, param_local}
-use Rattle.ja_facts.specs.Actions.{IsRun, IsInitialiser, runs_initialiser, runs_constructor, runs_entry}
-use Rattle.ja_facts.specs.ClassSets.{Fact as ClassFact, Reached, InEnv, InSlot, InThrown, InParam, InResult, InOut, InField, InBag, CallsMethod, CallsAbstract, CallsLibrary, InSpan, Takes as TakesArguments, Rule as ClassRule, found_method, selects_method, by_static, by_special}
-use Rattle.ja_facts.specs.ClassSets.{IsSource, argument}
-use Rattle.ja_facts.specs.Sharing.{Fact as HeapFact, PairAt, PairWithin, Effect, Root, Arg, Fields, Name, At as NameAt, Statics, Old, Keeps, keeps_slot, keeps_statics, keeps_old, Takes, takes_field, takes_element, takes_static, Writes, writes_field, writes_element, writes_static, Answers, IsRootOf, IsReference, IsHandled, root_name, start_name, Rule as HeapRule}
-use Rattle.ja_facts.specs.Sharing.{turned, turned_within, statics_meet, statics_meet_old, run_begins, run_begins_old, call_begins, call_begins_old, kept, copied, made, taken, taken_meets, static_taken, static_taken_meets, static_taken_shares, written, static_written, within, absorbed, library_ends, library_meets, library_argument, library_argument_meets, library_member, call_kept, affected_meets, affected_result, result_meets, result_meets_itself, throws_new, throw_kept, abstract_throws, abstract_throw_kept, library_throws, library_throw_kept, thrown, thrown_meets, callee_throw_kept, callee_throw_affects, callee_throw_affected, callee_throw_meets, callee_throw_meets_itself, written_effect, static_effect, library_effect, call_effect}
+use Rattle.ja_facts.specs.Slots.{Slot, Local, OnStack, Copies, CallAt, kept_local, kept_stack, loaded, stored, shuffled, checked, argument}
+use Rattle.ja_facts.specs.Actions.{IsRun, runs_initialiser, runs_constructor, runs_entry}
+use Rattle.ja_facts.specs.ClassSets.{Fact as ClassFact, Reached, InEnv, InSlot, InThrown, InParam, InResult, InOut, InField, InBag, CallsMethod, CallsAbstract, CallsLibrary, Spans, Takes as TakesArguments, Rule as ClassRule, found_method, selects_method, by_static, by_special}
+use Rattle.ja_facts.specs.ClassSets.{IsSource}
+use Rattle.ja_facts.specs.Sharing.{Fact as HeapFact, PairAt, PairWithin, Effect, Root, Arg, Fields, Name, At as NameAt, Statics, Old, Keeps, keeps_slot, keeps_statics, keeps_old, Takes, takes_field, takes_element, takes_static, Writes, writes_field, writes_element, writes_static, IsRootOf, IsReference, root_name, start_name, Rule as HeapRule, LibraryEnds, ends_normally, ends_by_exception, RaisesNew, raised_here, raised_at_abstract, entered_begins, entered_begins_old, crossing_kept, affected_answer, answer_meets, answer_meets_itself, entered_effect}
+use Rattle.ja_facts.specs.Sharing.{turned, turned_within, statics_meet, statics_meet_old, run_begins, run_begins_old, kept, copied, made, taken, taken_meets, static_taken, static_taken_meets, static_taken_shares, written, static_written, within, absorbed, library_ends, library_meets, library_argument, library_argument_meets, library_member, affected_meets, throws_new, throw_kept, library_throws, thrown, thrown_meets, written_effect, static_effect, library_effect}
 use Rattle.ja_facts.specs.Formulas.{IsAffected}
 use Rattle.ja_facts.proofs.LeastLaws.{Least-below}
-use Rattle.ja_examples.specs.Solutions.{Classes, Heaps}
+use Rattle.ja_facts.specs.Analyses.{Classes, Heaps, analyses_of}
 use Rattle.ja_examples.specs.Unlinking.{unlinking, unlinking_f, unlinking_main, unlinking_entry, unlink}
 use Rattle.ja_examples.proofs.Listed.{AllFrom, all_at, only_item, no_item}
+use Rattle.ja_ir.specs.Params.{IsReferenceParam, param_local}
+use Rattle.ja_facts.specs.Crossings.{Enters, by_call, by_initialiser, Crossing, Crosses, call_returns, call_throws, initialiser_returns, IsHandled}
+use Rattle.ja_ir.specs.Initializing.{inits_of_class}
+use Rattle.ja_examples.proofs.Initless.{no_init, no_initialiser}
 
 -- ---- the instructions
 
@@ -171,7 +174,7 @@ calls_solve ps (InBag b t) rule each = tt
 calls_solve ps (CallsMethod m i n) rule each = calls_f rule
 calls_solve ps (CallsAbstract m i n) rule each = tt
 calls_solve ps (CallsLibrary m i) rule each = tt
-calls_solve ps (InSpan m i k t) rule each = tt
+calls_solve ps (Spans t u) rule each = tt
 calls_solve ps (TakesArguments m i b) rule each = tt
 
 goes_to_f : (m i n : ℕ) → Classes unlinking (CallsMethod m i n) → (m ≡ 1) × (i ≡ 8) × (n ≡ 0)
@@ -304,21 +307,54 @@ writes_side : (m : ℕ) {op : Op} {height : ℕ} {x v : Slot} → Writes op heig
 writes_side m (writes_field {k = k} h) = stack_side m k ∙ sym (stack_side m (suc k))
 writes_side m (writes_element {k = k} h) = stack_side m k ∙ sym (stack_side m (suc (suc k)))
 
-answer_side : (m k under : ℕ) (call : CallOp) {r : Slot} → Answers call under r → side m (NameAt (argument under k)) ≡ side m (NameAt r)
-answer_side m k under call {r = r} answers = stack_side m (under + k) ∙ sym (stack_side m under) ∙ sym (ap (λ (z : Slot). side m (NameAt z)) answers.2)
+-- the arguments stand on the side of a result
+answer_side : (m k under : ℕ) → side m (NameAt (argument under k)) ≡ side m (NameAt (OnStack under))
+answer_side m k under = stack_side m (under + k) ∙ sym (stack_side m under)
+
+-- a library call leads on to the next instruction with the pairs that it has then
+ends_next : (m i j : ℕ) {left : ℕ} → LibraryEnds unlinking (Classes unlinking) m i j left → Leads unlinking m i j
+ends_next m i j (ends_normally library l) = l
+ends_next m i j (ends_by_exception library handled) = absurd (no_handler m i j handled)
+
+-- a pair that stays
+stayed : (m i j : ℕ) {left : ℕ} {a b : Name} → LibraryEnds unlinking (Classes unlinking) m i j left → Apart m i a b → Apart m j a b
+stayed m i j ends x = record { first = x.first; second = x.second; sides = λ early. x.sides (early_before m i j (ends_next m i j ends) early) }
+
+-- a result in place of an argument
+answered : (m i j under k : ℕ) {b : Name} → Leads unlinking m i j → Apart m i (NameAt (argument under k)) b → Apart m j (NameAt (OnStack under)) b
+answered m i j under k l x = record {
+  first = fine_slot m (OnStack under);
+  second = x.second;
+  sides = λ early. sym (answer_side m k under) ∙ x.sides (early_before m i j l early);
+}
+
+-- no class has a class initialiser
+no_inits : (c : ℕ) → inits_of_class (slice_get unlinking.classes c) ≡ []
+no_inits zero = refl
+no_inits (suc c) = refl
+
+-- main's call of f alone enters a method, and it comes back behind it
+enters_f : (m i n : ℕ) {count under : ℕ} → Enters unlinking (Classes unlinking) m i n count under → (m ≡ 1) × (i ≡ 8) × (n ≡ 0)
+enters_f m i n (by_call reached calls at) = goes_to_f m i n calls
+enters_f m i n (by_initialiser reached init o) = absurd (no_init unlinking no_inits init)
+
+crosses_f : (m i n : ℕ) {x : Crossing} → Crosses unlinking (Classes unlinking) m i n x → (m ≡ 1) × (i ≡ 8) × Leads unlinking m i x.back
+crosses_f m i n (call_returns reached calls at l) = ((goes_to_f m i n calls).0, (goes_to_f m i n calls).1, l)
+crosses_f m i n (call_throws {j = j} reached calls at handled) = absurd (no_handler m i j handled)
+crosses_f m i n (initialiser_returns reached init o) = absurd (no_init unlinking no_inits init)
 
 -- after the call anything may be
-late : (m i j n : ℕ) (a b : Name) → Classes unlinking (CallsMethod m i n) → Leads unlinking m i j → Apart m j a b
-late m i j n a b calls leads = record {
-  first = fine_main m a (goes_to_f m i n calls).0;
-  second = fine_main m b (goes_to_f m i n calls).0;
-  sides = λ early. absurd (no_early m (goes_to_f m i n calls).0 (goes_to_f m i n calls).1 leads early);
+late : (m i n : ℕ) (x : Crossing) (a b : Name) → Crosses unlinking (Classes unlinking) m i n x → Apart m x.back a b
+late m i n x a b crosses = record {
+  first = fine_main m a (crosses_f m i n crosses).0;
+  second = fine_main m b (crosses_f m i n crosses).0;
+  sides = λ early. absurd (no_early m x.back (crosses_f m i n crosses).0 (crosses_f m i n crosses).1 (crosses_f m i n crosses).2 early);
 }
   where
-    no_early : (m : ℕ) → m ≡ 1 → i ≡ 8 → Leads unlinking m i j → IsEarly m j → ⊥
-    no_early zero is at l early = omega (arith, is)
-    no_early (suc zero) is at l early = let e : j ≡ suc i = leads_next i j l in omega (arith, e, at, early)
-    no_early (suc (suc m)) is at l early = omega (arith, is)
+    no_early : (m j : ℕ) → m ≡ 1 → i ≡ 8 → Leads unlinking m i j → IsEarly m j → ⊥
+    no_early zero j is at l early = omega (arith, is)
+    no_early (suc zero) j is at l early = let e : j ≡ suc i = leads_next i j l in omega (arith, e, at, early)
+    no_early (suc (suc m)) j is at l early = omega (arith, is)
 
 no_get : (m i : ℕ) {f height : ℕ} → OpAt unlinking m i (GetStatic (record { 0 = f })) height → ⊥
 no_get zero i o = ok_at zero o
@@ -360,9 +396,8 @@ fine_start n method (Arg k) = fine_slot n (Local (param_local method k))
 fine_start n method Fields = fine_statics n
 
 -- the pair of two roots at a call of f says that they stand on one side
-called_sides : (m i n under : ℕ) (s r : Root) → Classes unlinking (CallsMethod m i n) → Apart m i (root_name under s) (root_name under r) → root_side s ≡ root_side r
-called_sides m i n under s r calls pair =
-    sym (called_root m under s (goes_to_f m i n calls).0) ∙ pair.sides (early m (goes_to_f m i n calls).1) ∙ called_root m under r (goes_to_f m i n calls).0
+called_sides : (m i under : ℕ) (s r : Root) → m ≡ 1 → i ≡ 8 → Apart m i (root_name under s) (root_name under r) → root_side s ≡ root_side r
+called_sides m i under s r is at pair = sym (called_root m under s is) ∙ pair.sides (early m at) ∙ called_root m under r is
   where
     early : (m : ℕ) → i ≡ 8 → IsEarly m i
     early zero e = tt
@@ -376,13 +411,17 @@ one_argument m i n {k = k} {call = call} at calls below =
       | inr here ↦ (let one : k < arguments unlink = subst (λ (c : CallOp). k < arguments c) here.2 below in omega (arith, one))
     ]
 
-fine_old : (m i n : ℕ) {under : ℕ} {call : CallOp} (r : Root) → CallAt unlinking m i call under → Classes unlinking (CallsMethod m i n) → IsRootOf call r → IsFine n (Old r)
-fine_old m i n (Arg k) at calls below = fine n (goes_to_f m i n calls).2 (one_argument m i n at calls below)
+entered_argument : (m i n : ℕ) {count under k : ℕ} → Enters unlinking (Classes unlinking) m i n count under → k < count → k ≡ 0
+entered_argument m i n (by_call reached calls at) below = one_argument m i n at calls below
+entered_argument m i n (by_initialiser reached init o) below = absurd (no_init unlinking no_inits init)
+
+fine_old : (m i n : ℕ) {count under : ℕ} (r : Root) → Enters unlinking (Classes unlinking) m i n count under → IsRootOf count r → IsFine n (Old r)
+fine_old m i n (Arg k) enters below = fine n (enters_f m i n enters).2 (entered_argument m i n enters below)
   where
     fine : (n : ℕ) → n ≡ 0 → k ≡ 0 → IsFine n (Old (Arg k))
     fine zero e f = f
     fine (suc n) e f = tt
-fine_old m i n Fields at calls below = fine_fields n
+fine_old m i n Fields enters below = fine_fields n
 
 -- the environment runs main alone
 the_entry : (entry : Entry) → Contains unlinking.entries entry → unlinking_entry ≡ entry
@@ -390,12 +429,7 @@ the_entry entry (zero, below, e) = e
 the_entry entry (suc k, below, e) = absurd (omega (arith, below))
 
 is_run : (m : ℕ) → IsRun unlinking m → m ≡ 1
-is_run m (runs_initialiser x) = no_initialiser m x
-  where
-    no_initialiser : (m : ℕ) → IsInitialiser unlinking m → m ≡ 1
-    no_initialiser zero x = let same : unlinking_f ≡ x.method = cc x.found in absurd (cc (subst (λ (method : Method). is_initializer method ≡ true) (sym same) x.initialises))
-    no_initialiser (suc zero) x = refl
-    no_initialiser (suc (suc m)) x = absurd (cc x.found)
+is_run m (runs_initialiser x) = absurd (no_initialiser unlinking no_inits x)
 is_run m (runs_constructor entry objects cons) =
     let found : Some unlinking_main ≡ Some objects.method = subst (λ (e : Entry). slice_get unlinking.methods e.method.0 ≡ Some objects.method) (sym (the_entry entry objects.is_entry.listed)) objects.is_entry.found in
     let same : unlinking_main ≡ objects.method = cc found in
@@ -442,6 +476,10 @@ called_effect : (m : ℕ) (r : Root) → m ≡ 1 → Holds (Effect m r)
 called_effect zero r e = absurd (omega (arith, e))
 called_effect (suc m) r e = tt
 
+no_raise : (m i j : ℕ) → RaisesNew unlinking (Classes unlinking) m i j → ⊥
+no_raise m i j (raised_here o reached new handled) = no_handler m i j handled
+no_raise m i j (raised_at_abstract at reached calls handled) = no_handler m i j handled
+
 pairs_solve : (ps : List HeapFact) (f : HeapFact) → HeapRule unlinking (Classes unlinking) ps f → Each Holds ps → Holds f
 pairs_solve _ _ (turned {m = m} {i = i} {a = a} {b = b}) each = swapped m i a b each.0
 pairs_solve _ _ (turned_within {m = m} {i = i} {a = a} {b = b}) each = swapped m i a b each.0
@@ -457,63 +495,55 @@ pairs_solve _ _ (run_begins_old {m = m} method s r run begins is_s is_r) each = 
   second = fine_main m (Old r) (is_run m run);
   sides = λ early. run_root m method s (is_run m run) begins is_s ∙ sym (run_old m r (is_run m run));
 }
-pairs_solve _ _ (call_begins {m = m} {i = i} {n = n} {under = under} method s r at reached calls begins is_s is_r) each = record {
-  first = fine_start n method s;
-  second = fine_start n method r;
-  sides = λ early.
-      begun_root n method s (goes_to_f m i n calls).2 ∙ called_sides m i n under s r calls each.0 ∙ sym (begun_root n method r (goes_to_f m i n calls).2);
-}
-pairs_solve _ _ (call_begins_old {m = m} {i = i} {n = n} {under = under} method s r at reached calls begins is_s is_r) each = record {
-  first = fine_start n method s;
-  second = fine_old m i n r at calls is_r;
-  sides = λ early.
-      begun_root n method s (goes_to_f m i n calls).2 ∙ called_sides m i n under s r calls each.0 ∙ sym (begun_old n r (goes_to_f m i n calls).2);
-}
-pairs_solve _ _ (kept {m = m} {i = i} {j = j} o plain reached l k h) each = move m i j (ok_at m o) l k h each.0
-pairs_solve _ _ (copied {m = m} {i = i} {x = x} {y = y} o plain reached l k h other) each = record {
+pairs_solve _ _ (entered_begins {m = m} {i = i} {n = n} {under = under} method s r enters begins is_s is_r) each =
+    let at : (m ≡ 1) × (i ≡ 8) × (n ≡ 0) = enters_f m i n enters in
+    record {
+      first = fine_start n method s;
+      second = fine_start n method r;
+      sides = λ early. begun_root n method s at.2 ∙ called_sides m i under s r at.0 at.1 each.0 ∙ sym (begun_root n method r at.2);
+    }
+pairs_solve _ _ (entered_begins_old {m = m} {i = i} {n = n} {under = under} method s r enters begins is_s is_r) each =
+    let at : (m ≡ 1) × (i ≡ 8) × (n ≡ 0) = enters_f m i n enters in
+    record {
+      first = fine_start n method s;
+      second = fine_old m i n r enters is_r;
+      sides = λ early. begun_root n method s at.2 ∙ called_sides m i under s r at.0 at.1 each.0 ∙ sym (begun_old n r at.2);
+    }
+pairs_solve _ _ (kept {m = m} {i = i} {j = j} step plain k h) each = move m i j (ok_at m step.at) step.leads k h each.0
+pairs_solve _ _ (copied {m = m} {i = i} {x = x} {y = y} step plain k h other) each = record {
   first = fine_slot m x;
   second = fine_slot m y;
-  sides = λ early. sym (slot_side m i (ok_at m o) k) ∙ slot_side m i (ok_at m o) h;
+  sides = λ early. sym (slot_side m i (ok_at m step.at) k) ∙ slot_side m i (ok_at m step.at) h;
 }
-pairs_solve _ _ (made {m = m} {j = j} {r = r} o reached l makes) each = both m j r
-pairs_solve _ _ (taken {m = m} {i = i} {j = j} {x = x} {r = r} o reached l takes h) each = instead m i j x r (takes_side m takes) (ok_at m o) l h each.0
-pairs_solve _ _ (taken_meets {m = m} {j = j} {r = r} o reached l takes) each = both m j r
-pairs_solve _ _ (static_taken {m = m} {i = i} o reached l takes_static h) each = absurd (no_get m i o)
-pairs_solve _ _ (static_taken_meets {m = m} {i = i} o reached l takes_static) each = absurd (no_get m i o)
-pairs_solve _ _ (static_taken_shares {m = m} {i = i} o reached l takes_static) each = absurd (no_get m i o)
-pairs_solve _ _ (written {m = m} {i = i} {j = j} o reached l writes live k h) each = joined m i j (ok_at m o) l (writes_side m writes) k h each.0 each.1.0
-pairs_solve _ _ (static_written {m = m} {i = i} o reached l (writes_static e) h) each = absurd (no_set m i o)
-pairs_solve _ _ (within at reached library) each = each.0
-pairs_solve _ _ (absorbed {m = m} x v at reached library source below live) each = absurd (no_source m x at source)
-pairs_solve _ _ (library_ends {m = m} {i = i} {j = j} at reached library l e k h) each = move m i j (ok_at m at.at) l k h each.0
-pairs_solve _ _ (library_meets {m = m} {j = j} {r = r} at reached library l answers itself) each = both m j r
-pairs_solve _ _ (library_argument {m = m} {i = i} {j = j} {under = under} {call = call} {r = r} at reached library l answers is some e h) each =
-    instead m i j (argument under 0) r (answer_side m 0 under call answers) (ok_at m at.at) l h each.0
-pairs_solve _ _ (library_argument_meets {m = m} {j = j} {r = r} at reached library l answers is some) each = both m j r
-pairs_solve _ _ (library_member {m = m} {i = i} {j = j} {under = under} {call = call} {r = r} k at reached library l answers from e h) each =
-    instead m i j (argument under k) r (answer_side m k under call answers) (ok_at m at.at) l h each.0
-pairs_solve _ _ (call_kept {m = m} {i = i} {j = j} {n = n} {c = c} {d = d} at reached calls l e k h) each = late m i j n c d calls l
-pairs_solve _ _ (affected_meets {m = m} {i = i} {j = j} {n = n} {c = c} {d = d} s r at reached calls l is_s is_r e live k h) each = late m i j n c d calls l
-pairs_solve _ _ (affected_result {m = m} {i = i} {j = j} {n = n} {y = y} {c = c} s at reached calls l is_s answers e live k) each = late m i j n c (NameAt y) calls l
-pairs_solve _ _ (result_meets {m = m} {i = i} {j = j} {n = n} {y = y} {d = d} r at reached calls l is_r answers e h) each = late m i j n (NameAt y) d calls l
-pairs_solve _ _ (result_meets_itself {m = m} {i = i} {j = j} {n = n} {y = y} at reached calls l answers) each = late m i j n (NameAt y) (NameAt y) calls l
-pairs_solve _ _ (throws_new {m = m} {i = i} {j = j} o reached handled new) each = absurd (no_handler m i j handled)
-pairs_solve _ _ (throw_kept {m = m} {i = i} {j = j} o reached handled new k h) each = absurd (no_handler m i j handled)
-pairs_solve _ _ (abstract_throws {m = m} {i = i} {j = j} at reached calls handled) each = absurd (no_handler m i j handled)
-pairs_solve _ _ (abstract_throw_kept {m = m} {i = i} {j = j} at reached calls handled k h) each = absurd (no_handler m i j handled)
-pairs_solve _ _ (library_throws {m = m} {i = i} {j = j} at reached calls handled) each = absurd (no_handler m i j handled)
-pairs_solve _ _ (library_throw_kept {m = m} {i = i} {j = j} at reached calls handled k h) each = absurd (no_handler m i j handled)
-pairs_solve _ _ (thrown {m = m} {i = i} {j = j} o reached handled h) each = absurd (no_handler m i j handled)
-pairs_solve _ _ (thrown_meets {m = m} {i = i} {j = j} o reached handled) each = absurd (no_handler m i j handled)
-pairs_solve _ _ (callee_throw_kept {m = m} {i = i} {j = j} at reached calls handled k h) each = absurd (no_handler m i j handled)
-pairs_solve _ _ (callee_throw_affects {m = m} {i = i} {j = j} s r at reached calls handled is_s is_r live k h) each = absurd (no_handler m i j handled)
-pairs_solve _ _ (callee_throw_affected {m = m} {i = i} {j = j} s at reached calls handled is_s live k) each = absurd (no_handler m i j handled)
-pairs_solve _ _ (callee_throw_meets {m = m} {i = i} {j = j} r at reached calls handled is_r h) each = absurd (no_handler m i j handled)
-pairs_solve _ _ (callee_throw_meets_itself {m = m} {i = i} {j = j} at reached calls handled) each = absurd (no_handler m i j handled)
+pairs_solve _ _ (made {m = m} {j = j} {r = r} step makes) each = both m j r
+pairs_solve _ _ (taken {m = m} {i = i} {j = j} {x = x} {r = r} step takes h) each = instead m i j x r (takes_side m takes) (ok_at m step.at) step.leads h each.0
+pairs_solve _ _ (taken_meets {m = m} {j = j} {r = r} step takes) each = both m j r
+pairs_solve _ _ (static_taken {m = m} {i = i} step takes_static h) each = absurd (no_get m i step.at)
+pairs_solve _ _ (static_taken_meets {m = m} {i = i} step takes_static) each = absurd (no_get m i step.at)
+pairs_solve _ _ (static_taken_shares {m = m} {i = i} step takes_static) each = absurd (no_get m i step.at)
+pairs_solve _ _ (written {m = m} {i = i} {j = j} step writes live k h) each = joined m i j (ok_at m step.at) step.leads (writes_side m writes) k h each.0 each.1.0
+pairs_solve _ _ (static_written {m = m} {i = i} step (writes_static e) h) each = absurd (no_set m i step.at)
+pairs_solve _ _ (within library) each = each.0
+pairs_solve _ _ (absorbed {m = m} x v library source below live) each = absurd (no_source m x library.at source)
+pairs_solve _ _ (library_ends {m = m} {i = i} {j = j} ends k h) each = stayed m i j ends each.0
+pairs_solve _ _ (library_throws {m = m} {i = i} {j = j} library handled) each = absurd (no_handler m i j handled)
+pairs_solve _ _ (library_meets {m = m} {j = j} {under = under} answer itself) each = both m j (OnStack under)
+pairs_solve _ _ (library_argument {m = m} {i = i} {j = j} {under = under} answer is some h) each = answered m i j under 0 answer.leads each.0
+pairs_solve _ _ (library_argument_meets {m = m} {j = j} {under = under} answer is some) each = both m j (OnStack under)
+pairs_solve _ _ (library_member {m = m} {i = i} {j = j} {under = under} k answer from h) each = answered m i j under k answer.leads each.0
+pairs_solve _ _ (crossing_kept {m = m} {i = i} {n = n} {a = a} {b = b} x crosses k h) each = late m i n x a b crosses
+pairs_solve _ _ (affected_meets {m = m} {i = i} {n = n} {a = a} {b = b} x s r crosses is_s is_r live k h) each = late m i n x a b crosses
+pairs_solve _ _ (affected_answer {m = m} {i = i} {n = n} {a = a} x s crosses is_s answers live k) each = late m i n x a (NameAt (OnStack x.left)) crosses
+pairs_solve _ _ (answer_meets {m = m} {i = i} {n = n} {b = b} x r crosses is_r answers h) each = late m i n x (NameAt (OnStack x.left)) b crosses
+pairs_solve _ _ (answer_meets_itself {m = m} {i = i} {n = n} x crosses answers) each = late m i n x (NameAt (OnStack x.left)) (NameAt (OnStack x.left)) crosses
+pairs_solve _ _ (throws_new {m = m} {i = i} {j = j} raises) each = absurd (no_raise m i j raises)
+pairs_solve _ _ (throw_kept {m = m} {i = i} {j = j} raises k h) each = absurd (no_raise m i j raises)
+pairs_solve _ _ (thrown {m = m} {i = i} {j = j} throws h) each = absurd (no_handler m i j throws.handled)
+pairs_solve _ _ (thrown_meets {m = m} {i = i} {j = j} throws) each = absurd (no_handler m i j throws.handled)
 pairs_solve _ _ (written_effect {m = m} {i = i} {x = x} {r = r} o reached writes) each = written_root m i x r each.0
 pairs_solve _ _ (static_effect {m = m} {i = i} o reached (writes_static e)) each = absurd (no_set m i o)
-pairs_solve _ _ (library_effect {m = m} x at reached library source) each = absurd (no_source m x at source)
-pairs_solve _ _ (call_effect {m = m} {i = i} {n = n} {r = r} s at reached calls is_s) each = called_effect m r (goes_to_f m i n calls).0
+pairs_solve _ _ (library_effect {m = m} x library source) each = absurd (no_source m x library.at source)
+pairs_solve _ _ (entered_effect {m = m} {i = i} {n = n} {r = r} s enters is_s) each = called_effect m r (enters_f m i n enters).0
 
 holds : (f : HeapFact) → Heaps unlinking f → Holds f
 holds f x = Least-below (HeapRule unlinking (Classes unlinking)) Holds pairs_solve f x
@@ -523,7 +553,7 @@ pub only_argument : (r : Root) → Heaps unlinking (Effect 0 r) → r ≡ Arg 0
 only_argument r x = holds (Effect 0 r) x
 
 -- main's argument is not affected by the call
-pub not_affected : IsAffected (Heaps unlinking) 1 8 0 unlink 0 (Local 0) → ⊥
+pub not_affected : IsAffected (analyses_of unlinking) 1 8 0 1 0 (Local 0) → ⊥
 not_affected x =
     let pair : Apart 1 8 (NameAt (Local 0)) (root_name 0 x.root) = holds (PairAt 1 8 (NameAt (Local 0)) (root_name 0 x.root)) x.pair in
     let same : Apart 1 8 (NameAt (Local 0)) (root_name 0 (Arg 0)) = subst (λ (r : Root). Apart 1 8 (NameAt (Local 0)) (root_name 0 r)) (only_argument x.root x.effect) pair in

@@ -4,18 +4,19 @@ use Rattle.ja_base.specs.declared.java_type.Kind.TheVariants.{R}
 use Rattle.ja_ir.specs.declared.op.Op.{Op}
 use Rattle.ja_ir.specs.declared.op.Op.TheVariants.{New, Load, Store, GetField, PutField, Shuffle, Call}
 use Rattle.ja_ir.specs.Examples.{at}
-use Rattle.ja_facts.specs.Slots.{Slot, Local, OnStack, CallAt, kept_local, kept_stack, loaded, stored as stored_into}
+use Rattle.ja_facts.specs.Slots.{Slot, Local, OnStack, CallAt, kept_local, kept_stack, loaded, stored as stored_into, left_local, left_stack}
 use Rattle.ja_facts.specs.Actions.{IsEntry}
-use Rattle.ja_facts.specs.ClassSets.{Reached, InSlot, InField, InSpan, Takes, CallsLibrary, entry_runs, made as object_made, moved, put, got, selects_library, elsewhere, span_argument, taker}
-use Rattle.ja_facts.specs.Held.{Spans, TokenHolds, FieldHolds, OfBag, itself, holds_bag, of_field}
-use Rattle.ja_facts.specs.Sharing.{PairAt, PairWithin, At as NameAt, keeps_slot, kept, copied as copied_pair, written as written_pair, within, library_ends, live_slot, writes_field, makes_object}
+use Rattle.ja_facts.specs.ClassSets.{Reached, InSlot, InField, Spans, Takes, CallsLibrary, entry_runs, made as object_made, moved, put, got, selects_library, elsewhere, spans_itself, taker}
+use Rattle.ja_facts.specs.Held.{TokenHolds, FieldHolds, OfBag, holds_bag, of_field}
+use Rattle.ja_facts.specs.Sharing.{PairAt, PairWithin, At as NameAt, keeps_slot, kept, copied as copied_pair, written as written_pair, within, library_ends, live_slot, writes_field, makes_object, stays_slot, ends_normally}
 use Rattle.ja_facts.specs.Formulas.{Turns, copied, above, made, loaded as read_loaded, loads_field, answered, absorbed, IsNormalEnd}
-use Rattle.ja_facts.specs.Equations.{Context, At, Stored, nothing, entry_called, begins, steps_held, held, reads_field, taken, IsWarned}
-use Rattle.ja_examples.specs.Solutions.{Classes, Helds, Heaps, Reaches, Taints}
+use Rattle.ja_facts.specs.Equations.{Context, At, Stored, entry_called, begins, reads_stored_field, held, reads_field, taken, IsWarned}
+use Rattle.ja_facts.specs.Analyses.{Classes, Helds, Heaps, analyses_of}
 use Rattle.ja_examples.specs.Truth.{only, dirty}
 use Rattle.ja_examples.specs.Library.{source, append, to_text, sink}
 use Rattle.ja_examples.specs.Building.{building, building_main, building_entry, built_site}
-use Rattle.ja_examples.proofs.Deriving.{by_class, by_held, by_heap, by_taint, Goes, op_at, leads, next, to_library, normal_end, step, no_read}
+use Rattle.ja_examples.proofs.Deriving.{by_class, by_held, by_heap, by_taint, Goes, op_at, leads, next, to_library, normal_end, step, no_read, Known, stepped, at_library, nothing_begins}
+use Rattle.ja_facts.specs.Example.{nothing}
 
 abbrev s : Op
 s = GetField (record { 0 = 0 })
@@ -174,19 +175,18 @@ texts =
     by_class building (Reached 0 13 ∷ InSlot 0 13 (OnStack 0) 2 ∷ []) (CallsLibrary 0 13)
     (selects_library at_text refl (elsewhere (λ is. absurd (cc is.1)) refl)) (reached13, (read_builder, tt))
 
-span : Classes building (InSpan 0 9 0 2)
-span = by_class building (Reached 0 9 ∷ CallsLibrary 0 9 ∷ InSlot 0 9 (OnStack 0) 2 ∷ []) (InSpan 0 9 0 2) (span_argument at_append (lit< tt)) (reached9, (appends, (receiver, tt)))
+spans : Classes building (Spans 2 2)
+spans = by_class building [] (Spans 2 2) spans_itself tt
 
 takes : Classes building (Takes 0 9 2)
-takes = by_class building (Reached 0 9 ∷ CallsLibrary 0 9 ∷ InSpan 0 9 0 2 ∷ []) (Takes 0 9 2) (taker at_append (refl, refl) refl) (reached9, (appends, (span, tt)))
+takes =
+    by_class building (Reached 0 9 ∷ CallsLibrary 0 9 ∷ InSlot 0 9 (OnStack 0) 2 ∷ Spans 2 2 ∷ []) (Takes 0 9 2) (taker 0 at_append (refl, refl) refl)
+    (reached9, (appends, (receiver, (spans, tt))))
 
 -- ---- the field may hold the bags of library objects
 
-spans : Helds building (Spans 2 2)
-spans = by_held building [] (Spans 2 2) (itself (lit< tt)) tt
-
 token_holds : Helds building (TokenHolds 2 (OfBag 2))
-token_holds = by_held building (Spans 2 2 ∷ []) (TokenHolds 2 (OfBag 2)) (holds_bag refl) (spans, tt)
+token_holds = by_held building [] (TokenHolds 2 (OfBag 2)) (holds_bag spans refl) tt
 
 pub field_holds : Helds building (FieldHolds 0 (OfBag 2))
 field_holds = by_held building (TokenHolds 2 (OfBag 2) ∷ []) (FieldHolds 0 (OfBag 2)) (of_field in_field) (token_holds, tt)
@@ -196,41 +196,41 @@ field_holds = by_held building (TokenHolds 2 (OfBag 2) ∷ []) (FieldHolds 0 (Of
 object_pushed : Heaps building (PairAt 0 5 (NameAt (Local 0)) (NameAt (OnStack 0)))
 object_pushed =
     by_heap building [] (PairAt 0 5 (NameAt (Local 0)) (NameAt (OnStack 0)))
-    (copied_pair (op_at building goes4) tt reached4 (leads building goes4) (kept_local tt) loaded (λ e. absurd (cc e))) tt
+    (copied_pair (stepped building goes4 reached4) tt (kept_local tt) loaded (λ e. absurd (cc e))) tt
 
 object_under : Heaps building (PairAt 0 6 (NameAt (Local 0)) (NameAt (OnStack 0)))
 object_under =
     by_heap building (PairAt 0 5 (NameAt (Local 0)) (NameAt (OnStack 0)) ∷ []) (PairAt 0 6 (NameAt (Local 0)) (NameAt (OnStack 0)))
-    (kept (op_at building goes5) tt reached5 (leads building goes5) (keeps_slot (kept_local tt)) (keeps_slot (kept_stack (lit< tt)))) (object_pushed, tt)
+    (kept (stepped building goes5 reached5) tt (keeps_slot (kept_local tt)) (keeps_slot (kept_stack (lit< tt)))) (object_pushed, tt)
 
 value_pushed : Heaps building (PairAt 0 6 (NameAt (OnStack 1)) (NameAt (Local 1)))
 value_pushed =
     by_heap building [] (PairAt 0 6 (NameAt (OnStack 1)) (NameAt (Local 1)))
-    (copied_pair (op_at building goes5) tt reached5 (leads building goes5) loaded (kept_local tt) (λ e. absurd (cc e))) tt
+    (copied_pair (stepped building goes5 reached5) tt loaded (kept_local tt) (λ e. absurd (cc e))) tt
 
 -- after the write, the object meets the builder
 object_meets : Heaps building (PairAt 0 7 (NameAt (Local 0)) (NameAt (Local 1)))
 object_meets =
     by_heap building (PairAt 0 6 (NameAt (Local 0)) (NameAt (OnStack 0)) ∷ PairAt 0 6 (NameAt (OnStack 1)) (NameAt (Local 1)) ∷ []) (PairAt 0 7 (NameAt (Local 0)) (NameAt (Local 1)))
-    (written_pair (op_at building goes6) reached6 (leads building goes6) (writes_field {k = 0} refl) live_slot (keeps_slot (kept_local tt)) (keeps_slot (kept_local tt)))
+    (written_pair (stepped building goes6 reached6) (writes_field {k = 0} refl) live_slot (keeps_slot (kept_local tt)) (keeps_slot (kept_local tt)))
     (object_under, (value_pushed, tt))
 
 object_builder8 : Heaps building (PairAt 0 8 (NameAt (Local 0)) (NameAt (OnStack 0)))
 object_builder8 =
     by_heap building (PairAt 0 7 (NameAt (Local 0)) (NameAt (Local 1)) ∷ []) (PairAt 0 8 (NameAt (Local 0)) (NameAt (OnStack 0)))
-    (kept (op_at building goes7) tt reached7 (leads building goes7) (keeps_slot (kept_local tt)) (keeps_slot loaded)) (object_meets, tt)
+    (kept (stepped building goes7 reached7) tt (keeps_slot (kept_local tt)) (keeps_slot loaded)) (object_meets, tt)
 
 builder_builder8 : Heaps building (PairAt 0 8 (NameAt (Local 1)) (NameAt (OnStack 0)))
 builder_builder8 =
     by_heap building [] (PairAt 0 8 (NameAt (Local 1)) (NameAt (OnStack 0)))
-    (copied_pair (op_at building goes7) tt reached7 (leads building goes7) (kept_local tt) loaded (λ e. absurd (cc e))) tt
+    (copied_pair (stepped building goes7 reached7) tt (kept_local tt) loaded (λ e. absurd (cc e))) tt
 
 -- the source's call leaves pairs as they are
 over_source : (l : ℕ) → Heaps building (PairAt 0 8 (NameAt (Local l)) (NameAt (OnStack 0))) → Heaps building (PairAt 0 9 (NameAt (Local l)) (NameAt (OnStack 0)))
 over_source l x =
     by_heap building (PairWithin 0 8 (NameAt (Local l)) (NameAt (OnStack 0)) ∷ []) (PairAt 0 9 (NameAt (Local l)) (NameAt (OnStack 0)))
-    (library_ends at_source reached8 sources (leads building goes8) refl (keeps_slot (kept_local tt)) (keeps_slot (kept_stack (lit< tt))))
-    (by_heap building (PairAt 0 8 (NameAt (Local l)) (NameAt (OnStack 0)) ∷ []) (PairWithin 0 8 (NameAt (Local l)) (NameAt (OnStack 0))) (within at_source reached8 sources) (x, tt), tt)
+    (library_ends (ends_normally (at_library building at_source reached8 sources) (leads building goes8)) (stays_slot left_local) (stays_slot (left_stack (lit< tt))))
+    (by_heap building (PairAt 0 8 (NameAt (Local l)) (NameAt (OnStack 0)) ∷ []) (PairWithin 0 8 (NameAt (Local l)) (NameAt (OnStack 0))) (within (at_library building at_source reached8 sources)) (x, tt), tt)
 
 pub met : Heaps building (PairAt 0 9 (NameAt (Local 0)) (NameAt (OnStack 0)))
 met = over_source 0 object_builder8
@@ -243,52 +243,52 @@ met_builder = over_source 1 builder_builder8
 main_entry : IsEntry building building_entry building_main
 main_entry = record { listed = (0, lit< tt, refl); found = refl }
 
-context : Taints building (Context 0 nothing)
-context = by_taint building [] (Context 0 nothing) (entry_called building_entry building_main [] main_entry (λ z t. absurd (cc t)) refl refl) tt
+context : Known building (Context 0 nothing)
+context = by_taint building [] (Context 0 nothing) (entry_called building_entry [] (nothing_begins building main_entry)) tt
 
-entered : Taints building (At 0 0 nothing nothing)
+entered : Known building (At 0 0 nothing nothing)
 entered = by_taint building (Context 0 nothing ∷ []) (At 0 0 nothing nothing) begins (context, tt)
 
 -- the instructions before the source leave nothing true
-object_slots : (i t : ℕ) (y : Slot) → Turns (Heaps building) (Reaches building) 0 i nothing (New (record { 0 = t })) 0 y false
+object_slots : (i t : ℕ) (y : Slot) → Turns (analyses_of building) 0 i nothing (New (record { 0 = t })) 0 y false
 object_slots i t (Local l) = copied (kept_local tt)
 object_slots i t (OnStack zero) = made makes_object
 object_slots i t (OnStack (suc k)) = above (omega arith)
 
-store0_slots : (y : Slot) → Turns (Heaps building) (Reaches building) 0 1 nothing (Store R 0) 1 y false
+store0_slots : (y : Slot) → Turns (analyses_of building) 0 1 nothing (Store R 0) 1 y false
 store0_slots (Local zero) = copied (stored_into {k = 0} refl)
 store0_slots (Local (suc l)) = copied (kept_local (λ e. absurd (cc e)))
 store0_slots (OnStack k) = above (omega arith)
 
-store1_slots : (y : Slot) → Turns (Heaps building) (Reaches building) 0 3 nothing (Store R 1) 1 y false
+store1_slots : (y : Slot) → Turns (analyses_of building) 0 3 nothing (Store R 1) 1 y false
 store1_slots (Local zero) = copied (kept_local (λ e. absurd (cc e)))
 store1_slots (Local (suc zero)) = copied (stored_into {k = 0} refl)
 store1_slots (Local (suc (suc l))) = copied (kept_local (λ e. absurd (cc e)))
 store1_slots (OnStack k) = above (omega arith)
 
-load_slots : (i l : ℕ) (y : Slot) → Turns (Heaps building) (Reaches building) 0 i nothing (Load R l) 0 y false
+load_slots : (i l : ℕ) (y : Slot) → Turns (analyses_of building) 0 i nothing (Load R l) 0 y false
 load_slots i l (Local x) = copied (kept_local tt)
 load_slots i l (OnStack zero) = copied loaded
 load_slots i l (OnStack (suc k)) = above (omega arith)
 
-second_slots : (y : Slot) → Turns (Heaps building) (Reaches building) 0 5 nothing (Load R 1) 1 y false
+second_slots : (y : Slot) → Turns (analyses_of building) 0 5 nothing (Load R 1) 1 y false
 second_slots (Local x) = copied (kept_local tt)
 second_slots (OnStack zero) = copied (kept_stack (lit< tt))
 second_slots (OnStack (suc zero)) = copied loaded
 second_slots (OnStack (suc (suc k))) = above (omega arith)
 
-put_slots : (y : Slot) → Turns (Heaps building) (Reaches building) 0 6 nothing (PutField (record { 0 = 0 })) 2 y false
+put_slots : (y : Slot) → Turns (analyses_of building) 0 6 nothing (PutField (record { 0 = 0 })) 2 y false
 put_slots (Local l) = copied (kept_local tt)
 put_slots (OnStack k) = above (omega arith)
 
-before_store : Taints building (At 0 4 nothing nothing)
+before_store : Known building (At 0 4 nothing nothing)
 before_store =
     step building goes3 (record { reached = refl; goes_on = refl; library = tt; slots = store1_slots; dirt = refl; exc = refl }) (no_read refl)
     (step building goes2 (record { reached = refl; goes_on = refl; library = tt; slots = object_slots 2 2; dirt = refl; exc = refl }) (no_read refl)
     (step building goes1 (record { reached = refl; goes_on = refl; library = tt; slots = store0_slots; dirt = refl; exc = refl }) (no_read refl)
     (step building goes0 (record { reached = refl; goes_on = refl; library = tt; slots = object_slots 0 0; dirt = refl; exc = refl }) (no_read refl) entered)))
 
-before_source : Taints building (At 0 8 nothing nothing)
+before_source : Known building (At 0 8 nothing nothing)
 before_source =
     step building goes7 (record { reached = refl; goes_on = refl; library = tt; slots = load_slots 7 1; dirt = refl; exc = refl }) (no_read refl)
     (step building goes6 (record { reached = refl; goes_on = refl; library = tt; slots = put_slots; dirt = refl; exc = refl }) (no_read refl)
@@ -296,65 +296,65 @@ before_source =
     (step building goes4 (record { reached = refl; goes_on = refl; library = tt; slots = load_slots 4 0; dirt = refl; exc = refl }) (no_read refl) before_store)))
 
 -- the source pushes a tainted text
-source_slots : (y : Slot) → Turns (Heaps building) (Reaches building) 0 8 nothing (Call source) 1 y ((only (OnStack 1 ∷ [])).slot y)
+source_slots : (y : Slot) → Turns (analyses_of building) 0 8 nothing (Call source) 1 y ((only (OnStack 1 ∷ [])).slot y)
 source_slots (Local l) = copied (kept_local tt)
 source_slots (OnStack zero) = copied (kept_stack (lit< tt))
 source_slots (OnStack (suc zero)) = answered 1 refl refl (λ t. refl)
 source_slots (OnStack (suc (suc k))) = above (omega arith)
 
-before_append : Taints building (At 0 9 nothing (only (OnStack 1 ∷ [])))
+before_append : Known building (At 0 9 nothing (only (OnStack 1 ∷ [])))
 before_append = step building goes8 (record { reached = refl; goes_on = refl; library = sources; slots = source_slots; dirt = refl; exc = refl }) (no_read refl) before_source
 
-pub in_bags : Taints building (Stored (OfBag 2))
+pub in_bags : Known building (Stored (OfBag 2))
 in_bags = by_taint building (At 0 9 nothing (only (OnStack 1 ∷ [])) ∷ []) (Stored (OfBag 2)) (taken at_append takes refl) (before_append, tt)
 
 -- what meets the builder is true after it took the text
-append_slots : (y : Slot) → Turns (Heaps building) (Reaches building) 0 9 (only (OnStack 1 ∷ [])) (Call append) 2 y ((dirty (Local 0 ∷ Local 1 ∷ OnStack 0 ∷ [])).slot y)
+append_slots : (y : Slot) → Turns (analyses_of building) 0 9 (only (OnStack 1 ∷ [])) (Call append) 2 y ((dirty (Local 0 ∷ Local 1 ∷ OnStack 0 ∷ [])).slot y)
 append_slots (Local zero) = absorbed 0 refl (kept_local tt) (record { x = 0; source = (refl, refl); pair = met }) (λ t. refl)
 append_slots (Local (suc zero)) = absorbed 0 refl (kept_local tt) (record { x = 0; source = (refl, refl); pair = met_builder }) (λ t. refl)
 append_slots (Local (suc (suc l))) = copied (kept_local tt)
 append_slots (OnStack zero) = answered 0 refl refl (λ t. refl)
 append_slots (OnStack (suc k)) = above (omega arith)
 
-pub appended : Taints building (At 0 10 nothing (dirty (Local 0 ∷ Local 1 ∷ OnStack 0 ∷ [])))
+pub appended : Known building (At 0 10 nothing (dirty (Local 0 ∷ Local 1 ∷ OnStack 0 ∷ [])))
 appended = step building goes9 (record { reached = refl; goes_on = refl; library = appends; slots = append_slots; dirt = refl; exc = refl }) (no_read refl) before_append
 
-pop_slots : (y : Slot) → Turns (Heaps building) (Reaches building) 0 10 (dirty (Local 0 ∷ Local 1 ∷ OnStack 0 ∷ [])) (Shuffle 1 []) 1 y ((dirty (Local 0 ∷ Local 1 ∷ [])).slot y)
+pop_slots : (y : Slot) → Turns (analyses_of building) 0 10 (dirty (Local 0 ∷ Local 1 ∷ OnStack 0 ∷ [])) (Shuffle 1 []) 1 y ((dirty (Local 0 ∷ Local 1 ∷ [])).slot y)
 pop_slots (Local l) = copied (kept_local tt)
 pop_slots (OnStack k) = above (omega arith)
 
-again_slots : (y : Slot) → Turns (Heaps building) (Reaches building) 0 11 (dirty (Local 0 ∷ Local 1 ∷ [])) (Load R 0) 0 y ((dirty (Local 0 ∷ Local 1 ∷ OnStack 0 ∷ [])).slot y)
+again_slots : (y : Slot) → Turns (analyses_of building) 0 11 (dirty (Local 0 ∷ Local 1 ∷ [])) (Load R 0) 0 y ((dirty (Local 0 ∷ Local 1 ∷ OnStack 0 ∷ [])).slot y)
 again_slots (Local l) = copied (kept_local tt)
 again_slots (OnStack zero) = copied loaded
 again_slots (OnStack (suc k)) = above (omega arith)
 
-before_read : Taints building (At 0 12 nothing (dirty (Local 0 ∷ Local 1 ∷ OnStack 0 ∷ [])))
+before_read : Known building (At 0 12 nothing (dirty (Local 0 ∷ Local 1 ∷ OnStack 0 ∷ [])))
 before_read =
     step building goes11 (record { reached = refl; goes_on = refl; library = tt; slots = again_slots; dirt = refl; exc = refl }) (no_read refl)
     (step building goes10 (record { reached = refl; goes_on = refl; library = tt; slots = pop_slots; dirt = refl; exc = refl }) (no_read refl) appended)
 
 -- what is read of the field is tainted, since the field may hold the bags
-read_slots : (y : Slot) → Turns (Heaps building) (Reaches building) 0 12 (dirty (Local 0 ∷ Local 1 ∷ OnStack 0 ∷ [])) s 1 y ((dirty (Local 0 ∷ Local 1 ∷ OnStack 0 ∷ [])).slot y)
+read_slots : (y : Slot) → Turns (analyses_of building) 0 12 (dirty (Local 0 ∷ Local 1 ∷ OnStack 0 ∷ [])) s 1 y ((dirty (Local 0 ∷ Local 1 ∷ OnStack 0 ∷ [])).slot y)
 read_slots (Local l) = copied (kept_local tt)
 read_slots (OnStack zero) = read_loaded (loads_field {k = 0} refl) (λ t. refl)
 read_slots (OnStack (suc k)) = above (omega arith)
 
-read_end : IsNormalEnd building (Classes building) (Heaps building) (Reaches building) 0 12 (dirty (Local 0 ∷ Local 1 ∷ OnStack 0 ∷ [])) (dirty (Local 0 ∷ Local 1 ∷ OnStack 0 ∷ []))
+read_end : IsNormalEnd building (analyses_of building) 0 12 (dirty (Local 0 ∷ Local 1 ∷ OnStack 0 ∷ [])) (dirty (Local 0 ∷ Local 1 ∷ OnStack 0 ∷ []))
 read_end = normal_end building goes12 (record { reached = refl; goes_on = refl; library = tt; slots = read_slots; dirt = refl; exc = refl })
 
-pub read : Taints building (At 0 13 nothing (dirty (Local 0 ∷ Local 1 ∷ OnStack 0 ∷ [])))
+pub read : Known building (At 0 13 nothing (dirty (Local 0 ∷ Local 1 ∷ OnStack 0 ∷ [])))
 read =
     by_taint building (At 0 12 nothing (dirty (Local 0 ∷ Local 1 ∷ OnStack 0 ∷ [])) ∷ Stored (OfBag 2) ∷ []) (At 0 13 nothing (dirty (Local 0 ∷ Local 1 ∷ OnStack 0 ∷ [])))
-    (steps_held (op_at building goes12) (leads building goes12) read_end (reads_field {k = 0} refl) refl (held field_holds)) (before_read, (in_bags, tt))
+    (reads_stored_field (op_at building goes12) (leads building goes12) read_end (reads_field {k = 0} refl) refl (held field_holds)) (before_read, (in_bags, tt))
 
 -- so is its text
-text_slots : (y : Slot) → Turns (Heaps building) (Reaches building) 0 13 (dirty (Local 0 ∷ Local 1 ∷ OnStack 0 ∷ [])) (Call to_text) 1 y ((dirty (Local 0 ∷ Local 1 ∷ OnStack 0 ∷ [])).slot y)
+text_slots : (y : Slot) → Turns (analyses_of building) 0 13 (dirty (Local 0 ∷ Local 1 ∷ OnStack 0 ∷ [])) (Call to_text) 1 y ((dirty (Local 0 ∷ Local 1 ∷ OnStack 0 ∷ [])).slot y)
 text_slots (Local l) = copied (kept_local tt)
 text_slots (OnStack zero) = answered 0 refl refl (λ t. refl)
 text_slots (OnStack (suc k)) = above (omega arith)
 
-text : Taints building (At 0 14 nothing (dirty (Local 0 ∷ Local 1 ∷ OnStack 0 ∷ [])))
+text : Known building (At 0 14 nothing (dirty (Local 0 ∷ Local 1 ∷ OnStack 0 ∷ [])))
 text = step building goes13 (record { reached = refl; goes_on = refl; library = texts; slots = text_slots; dirt = refl; exc = refl }) (no_read refl) read
 
-pub warned : IsWarned building (Taints building) built_site
+pub warned : IsWarned building (Known building) built_site
 warned = record { call = sink; under = 0; at = at_sink; a = nothing; b = dirty (Local 0 ∷ Local 1 ∷ OnStack 0 ∷ []); fact = text; k = 0; listed = (0, lit< tt, refl); true_argument = refl }

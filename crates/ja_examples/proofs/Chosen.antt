@@ -1,21 +1,22 @@
 -- What the program with two virtual calls comes to: each call goes to what its receivers select, and the first sink call is warned.
-use Rattle.std.proofs.Common.{lit<, ◌≡◌, subst, ℕ, zero, suc, false, [], ◌∷◌, Some, refl, arith}
+use Rattle.std.proofs.Common.{lit<, ◌≡◌, subst, ℕ, zero, suc, true, false, [], ◌∷◌, Some, refl, arith}
 use Rattle.ja_base.specs.declared.java_type.Kind.TheVariants.{P1, R}
 use Rattle.ja_ir.specs.declared.op.Op.TheVariants.{Const, New, Branch, Call, Return}
 use Rattle.ja_ir.specs.declared.class.ClassInfo.{ClassInfo}
 use Rattle.ja_ir.specs.Lookup.{OpAt, is_abstract, is_interface}
 use Rattle.ja_ir.specs.Examples.{at}
-use Rattle.ja_facts.specs.Slots.{Slot, Local, OnStack, CallAt, kept_local, kept_stack}
+use Rattle.ja_facts.specs.Slots.{Slot, Local, OnStack, CallAt, kept_local, kept_stack, left_local}
 use Rattle.ja_facts.specs.Actions.{IsEntry}
 use Rattle.ja_facts.specs.ClassSets.{Reached, InSlot, CallsLibrary, CallsMethod, CanBeMade, entry_runs, made as object_made, moved, selects_method, selected}
 use Rattle.ja_facts.specs.Formulas.{Turns, copied, above, constant, made, answered, CallTurns, call_kept, call_answered, call_above}
 use Rattle.ja_facts.specs.Sharing.{makes_object}
-use Rattle.ja_facts.specs.Equations.{Context, At, Normal, nothing, entry_called, called, begins, returns, returned, Calls, IsWarned}
-use Rattle.ja_examples.specs.Solutions.{Classes, Heaps, Reaches, Taints}
+use Rattle.ja_facts.specs.Equations.{Context, At, Normal, entry_called, called, begins, Calls, IsWarned, call_resumes, method_returns}
+use Rattle.ja_facts.specs.Analyses.{Classes, analyses_of}
 use Rattle.ja_examples.specs.Truth.{only, tainted_result}
-use Rattle.ja_examples.specs.Library.{string, source, sink}
+use Rattle.ja_examples.specs.Library.{source, sink}
 use Rattle.ja_examples.specs.Choosing.{choosing, choosing_q, either_main, choosing_entry, choosing_site, class_q, class_r, call_m}
-use Rattle.ja_examples.proofs.Deriving.{by_class, by_taint, Goes, op_at, leads, next, to_library, callee, step, no_read}
+use Rattle.ja_examples.proofs.Deriving.{by_class, by_taint, Goes, op_at, leads, next, to_library, callee, step, no_read, Known, nothing_begins}
+use Rattle.ja_facts.specs.Example.{nothing}
 
 -- the instructions
 either0 : Goes choosing 2 0 1 (at 0 (Const P1) (1 ∷ []) 0)
@@ -133,38 +134,38 @@ sources = to_library choosing at_source refl refl (callee choosing reached5 eith
 is_entry : IsEntry choosing (choosing_entry 2) either_main
 is_entry = record { listed = (0, lit< tt, refl); found = refl }
 
-starts : (m : ℕ) → Taints choosing (Context m nothing) → Taints choosing (At m 0 nothing nothing)
+starts : (m : ℕ) → Known choosing (Context m nothing) → Known choosing (At m 0 nothing nothing)
 starts m context = by_taint choosing (Context m nothing ∷ []) (At m 0 nothing nothing) begins (context, tt)
 
-const_slots : (y : Slot) → Turns (Heaps choosing) (Reaches choosing) 2 0 nothing (Const P1) 0 y false
+const_slots : (y : Slot) → Turns (analyses_of choosing) 2 0 nothing (Const P1) 0 y false
 const_slots (Local l) = copied (kept_local tt)
 const_slots (OnStack zero) = constant
 const_slots (OnStack (suc k)) = above (omega arith)
 
-test_slots : (y : Slot) → Turns (Heaps choosing) (Reaches choosing) 2 1 nothing (Branch 1) 1 y false
+test_slots : (y : Slot) → Turns (analyses_of choosing) 2 1 nothing (Branch 1) 1 y false
 test_slots (Local l) = copied (kept_local tt)
 test_slots (OnStack k) = above (omega arith)
 
-new_slots : (y : Slot) → Turns (Heaps choosing) (Reaches choosing) 2 2 nothing (New (record { 0 = 1 })) 0 y false
+new_slots : (y : Slot) → Turns (analyses_of choosing) 2 2 nothing (New (record { 0 = 1 })) 0 y false
 new_slots (Local l) = copied (kept_local tt)
 new_slots (OnStack zero) = made makes_object
 new_slots (OnStack (suc k)) = above (omega arith)
 
-jump_slots : (y : Slot) → Turns (Heaps choosing) (Reaches choosing) 2 3 nothing (Branch 0) 1 y false
+jump_slots : (y : Slot) → Turns (analyses_of choosing) 2 3 nothing (Branch 0) 1 y false
 jump_slots (Local l) = copied (kept_local tt)
 jump_slots (OnStack zero) = copied (kept_stack (lit< tt))
 jump_slots (OnStack (suc k)) = above (omega arith)
 
-before_call : Taints choosing (At 2 5 nothing nothing)
+before_call : Known choosing (At 2 5 nothing nothing)
 before_call =
     step choosing either3 (record { reached = refl; goes_on = refl; library = tt; slots = jump_slots; dirt = refl; exc = refl }) (no_read refl)
     (step choosing either2 (record { reached = refl; goes_on = refl; library = tt; slots = new_slots; dirt = refl; exc = refl }) (no_read refl)
     (step choosing either1 (record { reached = refl; goes_on = refl; library = tt; slots = test_slots; dirt = refl; exc = refl }) (no_read refl)
     (step choosing either0 (record { reached = refl; goes_on = refl; library = tt; slots = const_slots; dirt = refl; exc = refl }) (no_read refl)
-    (starts 2 (by_taint choosing [] (Context 2 nothing) (entry_called (choosing_entry 2) either_main [] is_entry (λ z t. absurd (cc t)) refl refl) tt)))))
+    (starts 2 (by_taint choosing [] (Context 2 nothing) (entry_called (choosing_entry 2) [] (nothing_begins choosing is_entry)) tt)))))
 
 -- Q's method answers something tainted
-calls_q : Calls choosing (Classes choosing) 2 5 0 call_m 0 nothing nothing
+calls_q : Calls choosing (analyses_of choosing) 2 5 0 call_m 0 nothing nothing
 calls_q = record {
   at = at_either;
   goes = either_calls_q;
@@ -173,7 +174,7 @@ calls_q = record {
   hands = record { each = λ k below. refl; others = λ z other. refl; dirt = refl; exc = refl };
 }
 
-source_slots : (y : Slot) → Turns (Heaps choosing) (Reaches choosing) 0 0 nothing (Call source) 0 y ((only (OnStack 0 ∷ [])).slot y)
+source_slots : (y : Slot) → Turns (analyses_of choosing) 0 0 nothing (Call source) 0 y ((only (OnStack 0 ∷ [])).slot y)
 source_slots (Local l) = copied (kept_local tt)
 source_slots (OnStack zero) = answered 0 refl refl (λ t. refl)
 source_slots (OnStack (suc k)) = above (omega arith)
@@ -181,23 +182,23 @@ source_slots (OnStack (suc k)) = above (omega arith)
 return_at : OpAt choosing 0 1 (Return (Some R)) 1
 return_at = record { instr = at 1 (Return (Some R)) [] 1; found = refl; is_op = refl; is_height = refl }
 
-q_returns : Taints choosing (Normal 0 nothing tainted_result)
+q_returns : Known choosing (Normal 0 nothing tainted_result)
 q_returns =
-    by_taint choosing (At 0 1 nothing (only (OnStack 0 ∷ [])) ∷ []) (Normal 0 nothing tainted_result) (returned return_at) (
+    by_taint choosing (At 0 1 nothing (only (OnStack 0 ∷ [])) ∷ []) (Normal 0 nothing tainted_result) (method_returns return_at) (
       step choosing q0 (record { reached = refl; goes_on = refl; library = sources; slots = source_slots; dirt = refl; exc = refl }) (no_read refl)
           (starts 0 (by_taint choosing (At 2 5 nothing nothing ∷ []) (Context 0 nothing) (called calls_q) (before_call, tt))),
       tt,
     )
 
-return_slots : (y : Slot) → CallTurns (Heaps choosing) 2 5 0 nothing tainted_result call_m 0 y ((only (OnStack 0 ∷ [])).slot y)
-return_slots (Local l) = call_kept (kept_local tt)
-return_slots (OnStack zero) = call_answered (string, refl, refl)
+return_slots : (y : Slot) → CallTurns (analyses_of choosing) 2 5 0 1 0 true nothing tainted_result y ((only (OnStack 0 ∷ [])).slot y)
+return_slots (Local l) = call_kept left_local
+return_slots (OnStack zero) = call_answered refl
 return_slots (OnStack (suc k)) = call_above (omega arith)
 
-after_call : Taints choosing (At 2 6 nothing (only (OnStack 0 ∷ [])))
+after_call : Known choosing (At 2 6 nothing (only (OnStack 0 ∷ [])))
 after_call =
     by_taint choosing (At 2 5 nothing nothing ∷ Normal 0 nothing tainted_result ∷ []) (At 2 6 nothing (only (OnStack 0 ∷ [])))
-    (returns calls_q (leads choosing either5) (record { slots = return_slots; dirt = refl; exc = refl })) (before_call, (q_returns, tt))
+    (call_resumes calls_q (leads choosing either5) (record { slots = return_slots; dirt = refl; exc = refl })) (before_call, (q_returns, tt))
 
-pub warned : IsWarned choosing (Taints choosing) (choosing_site 2 6)
+pub warned : IsWarned choosing (Known choosing) (choosing_site 2 6)
 warned = record { call = sink; under = 0; at = at_sink; a = nothing; b = only (OnStack 0 ∷ []); fact = after_call; k = 0; listed = (0, lit< tt, refl); true_argument = refl }

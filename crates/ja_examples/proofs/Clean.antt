@@ -10,13 +10,12 @@ use Rattle.ja_ir.specs.declared.op.Op.TheVariants.{Text, New, Call}
 use Rattle.ja_ir.specs.Lookup.{instr_at}
 use Rattle.ja_ir.specs.Operations.{arguments}
 use Rattle.ja_ir.specs.Handlers.{Inside, Outside}
-use Rattle.ja_facts.specs.Slots.{Slot, OnStack, Copies, CallAt, kept_local, kept_stack, loaded as pushed, stored as popped, shuffled, checked}
-use Rattle.ja_facts.specs.ClassSets.{argument}
-use Rattle.ja_facts.specs.Sharing.{Fact as HeapFact, Writes, writes_field, writes_element}
-use Rattle.ja_facts.specs.Reaching.{Fact as ReachFact}
+use Rattle.ja_facts.specs.Slots.{Slot, OnStack, Copies, CallAt, kept_local, kept_stack, loaded as pushed, stored as popped, shuffled, checked, argument}
+use Rattle.ja_facts.specs.Sharing.{Writes, writes_field, writes_element}
 use Rattle.ja_facts.specs.Formulas.{Assignment, Turns, Loads, loads_field, loads_element, copied, above, constant, made, measured, tested, mixed, loaded, static_loaded, written, absorbed, answered}
 use Rattle.ja_examples.specs.Library.{sink}
 use Rattle.ja_examples.proofs.Listed.{only_item}
+use Rattle.ja_facts.specs.Analyses.{Analyses}
 
 pub outside : {j : ℕ} → Contains (Outside ∷ []) (Inside j) → ⊥
 outside (zero, below, e) = cc e
@@ -42,20 +41,20 @@ no_writes : {op : Op} {height : ℕ} {x v : Slot} → Text ≡ op → Writes op 
 no_writes e (writes_field h) = cc e
 no_writes e (writes_element h) = cc e
 
-pub text_turns : (H : HeapFact → Type 0) (R : ReachFact → Type 0) (m i : ℕ) (b : Assignment) {op : Op} {height : ℕ} {y : Slot} {t : Bool}
-    → Text ≡ op → y ≡ OnStack height → Turns H R m i b op height y t → t ≡ false
-text_turns H R m i b is e (copied c) = absurd (no_copy 0 (inl is) e c)
-text_turns H R m i b is e (above h) = refl
-text_turns H R m i b is e constant = refl
-text_turns H R m i b is e (made h) = refl
-text_turns H R m i b is e (measured h) = refl
-text_turns H R m i b is e (tested h) = refl
-text_turns H R m i b is e (mixed h) = absurd (cc is)
-text_turns H R m i b is e (loaded h g) = absurd (no_loads is h)
-text_turns H R m i b is e static_loaded = absurd (cc is)
-text_turns H R m i b is e (written w c r g) = absurd (no_writes is w)
-text_turns H R m i b is e (absorbed under h c s g) = absurd (cc is)
-text_turns H R m i b is e (answered under h g j) = absurd (cc is)
+pub text_turns : (A : Analyses) (m i : ℕ) (b : Assignment) {op : Op} {height : ℕ} {y : Slot} {t : Bool}
+    → Text ≡ op → y ≡ OnStack height → Turns A m i b op height y t → t ≡ false
+text_turns A m i b is e (copied c) = absurd (no_copy 0 (inl is) e c)
+text_turns A m i b is e (above h) = refl
+text_turns A m i b is e constant = refl
+text_turns A m i b is e (made h) = refl
+text_turns A m i b is e (measured h) = refl
+text_turns A m i b is e (tested h) = refl
+text_turns A m i b is e (mixed h) = absurd (cc is)
+text_turns A m i b is e (loaded h g) = absurd (no_loads is h)
+text_turns A m i b is e static_loaded = absurd (cc is)
+text_turns A m i b is e (written w c r g) = absurd (no_writes is w)
+text_turns A m i b is e (absorbed under h c s g) = absurd (cc is)
+text_turns A m i b is e (answered under h g j) = absurd (cc is)
 
 pub lowest_argument : (p : Parts) (m i : ℕ) (instr : Instr) (call : CallOp) (under k : ℕ) → instr_at p m i ≡ Some instr → instr.op ≡ Call sink → instr.height ≡ 1
     → CallAt p m i call under → Contains (0 ∷ []) k → argument under k ≡ OnStack 0

@@ -18,18 +18,19 @@ use Rattle.ja_ir.specs.Operations.{arguments, pops}
 use Rattle.ja_ir.specs.Tokens.{absorbs, fresh_tokens}
 use Rattle.ja_ir.specs.Handlers.{Inside, dest}
 use Rattle.ja_facts.specs.Least.{Each}
-use Rattle.ja_facts.specs.Slots.{Slot, Local, OnStack, Copies, HasParam, kept_local, kept_stack, loaded, stored, shuffled, checked, param_local}
+use Rattle.ja_facts.specs.Slots.{Slot, Local, OnStack, Copies, kept_local, kept_stack, loaded, stored, shuffled, checked}
 use Rattle.ja_facts.specs.Actions.{HasObjects, IsEntry}
-use Rattle.ja_facts.specs.ClassSets.{Fact as ClassFact, Reached, InEnv, InSlot, InThrown, InParam, InResult, InOut, InField, InBag, CallsMethod, CallsAbstract, CallsLibrary, InSpan, Takes, HasField, HasReference, LeadsFrom, Dispatches, IsSource, Rule as ClassRule}
+use Rattle.ja_facts.specs.ClassSets.{Fact as ClassFact, Reached, InEnv, InSlot, InThrown, InParam, InResult, InOut, InField, InBag, CallsMethod, CallsAbstract, CallsLibrary, Spans, Takes, HasField, HasReference, LeadsFrom, Dispatches, IsSource, Rule as ClassRule, spans_itself, spans_field, spans_bag}
 use Rattle.ja_facts.specs.ClassSets.{env_object, env_fresh, env_bag, begins, moved, text_made, made, array_made, array_filled, got, got_static, put, put_static, text_field, element_got, element_put, handled, handler_keeps, found_method, selects_method, selected, elsewhere, by_static, by_special, answered, taker, taken, library_fresh, library_filled, library_argument, library_member}
-use Rattle.ja_facts.specs.Held.{Fact as HeldFact, Spans, TokenHolds, FieldHolds, Cell, OfBag, itself, by_field, by_bag, holds_field, holds_bag, of_field, Rule as HeldRule}
+use Rattle.ja_facts.specs.Held.{Fact as HeldFact, TokenHolds, FieldHolds, Cell, OfBag, holds_field, holds_bag, of_field, Rule as HeldRule}
 use Rattle.ja_facts.proofs.LeastLaws.{Least-below}
-use Rattle.ja_examples.specs.Solutions.{Classes, Helds}
+use Rattle.ja_facts.specs.Analyses.{Classes, Helds}
 use Rattle.ja_examples.specs.Truth.{is_number}
 use Rattle.ja_examples.specs.Library.{string, source, append, to_text, sink}
 use Rattle.ja_examples.specs.Building.{building, building_main, building_entry}
 use Rattle.ja_examples.proofs.Clean.{outside}
 use Rattle.ja_examples.proofs.Listed.{AllFrom, all_at, only_item, no_item, next_of, flag_of}
+use Rattle.ja_ir.specs.Params.{param_local, HasParam}
 
 -- a text or a library object
 abbrev IsPlain : ℕ → Type 0
@@ -155,6 +156,7 @@ HasPlain (InSlot m i z t) = IsOther i z → IsPlain t
 HasPlain (InField f t) = IsPlain t
 HasPlain (InBag b t) = b ≡ 2 → IsPlain t
 HasPlain (CallsMethod m i n) = ⊥
+HasPlain (Spans t u) = IsPlain t → IsPlain u
 HasPlain (Takes m i b) = i ≡ 9
 HasPlain _ = Unit {0}
 
@@ -304,7 +306,7 @@ in_slot m j y t (library_fresh {i = i} {under = under} {call = call} {type = typ
     source_answers t type call has member (answers_other i j under at.height call (instr_of m at.at).0 at.under_is (leads_next m i j l) is)
 in_slot m j y t (library_argument {i = i} {under = under} {call = call} {type = type} at l has self some fit) each is =
     absurd (no_self call type has self (answers_other i j under at.height call (instr_of m at.at).0 at.under_is (leads_next m i j l) is))
-in_slot m j y t (library_member {i = i} {under = under} {k = k} {call = call} at l has from fit) each is =
+in_slot m j y t (library_member {i = i} {under = under} {call = call} k at l has from fit) each is =
     absurd (no_lead call k from (answers_other i j under at.height call (instr_of m at.at).0 at.under_is (leads_next m i j l) is))
 
 in_field : {ps : List ClassFact} (f t : ℕ) → ClassRule building ps (InField f t) → Each HasPlain ps → IsPlain t
@@ -324,6 +326,20 @@ in_bag b t (taken {m = m} {i = i} {under = under} {k = k} {call = call} at below
     each.1.1.0 (appends_other i under k at.height call (instr_of m at.at).0 each.1.0 at.under_is below)
 in_bag b t (library_filled at has makes member) each e = absurd (omega (arith, e))
 
+-- a text and a library object have no fields, and of them a library object alone takes something
+no_field : (u f : ℕ) → IsPlain u → HasField building u f → ⊥
+no_field u f (inl e) has = let found : slice_get building.classes 1 ≡ Some has.class.0 = subst (λ (t : ℕ). slice_get building.classes t ≡ Some has.class.0) e has.class.1 in cc found
+no_field u f (inr e) has = let found : slice_get building.classes 2 ≡ Some has.class.0 = subst (λ (t : ℕ). slice_get building.classes t ≡ Some has.class.0) e has.class.1 in cc found
+
+takes_only : (u : ℕ) → IsPlain u → absorbs building u ≡ true → u ≡ 2
+takes_only u (inl e) takes = absurd (let is : absorbs building 1 ≡ true = subst (λ (t : ℕ). absorbs building t ≡ true) e takes in cc is)
+takes_only u (inr e) takes = e
+
+spans : {ps : List ClassFact} (t u : ℕ) → ClassRule building ps (Spans t u) → Each HasPlain ps → IsPlain t → IsPlain u
+spans t u spans_itself each is = is
+spans t u (spans_field {u = v} f has) each is = absurd (no_field v f (each.0 is) has)
+spans t u (spans_bag {u = v} takes) each is = each.1.0 (takes_only v (each.0 is) takes)
+
 plain_solve : (ps : List ClassFact) (f : ClassFact) → ClassRule building ps f → Each HasPlain ps → HasPlain f
 plain_solve ps (Reached m i) rule each = tt
 plain_solve ps (InEnv t) rule each = in_env rule
@@ -341,11 +357,11 @@ plain_solve ps (InBag b t) rule each = in_bag b t rule each
 plain_solve ps (CallsMethod m i n) rule each = no_callee m i n rule
 plain_solve ps (CallsAbstract m i n) rule each = tt
 plain_solve ps (CallsLibrary m i) rule each = tt
-plain_solve ps (InSpan m i k t) rule each = tt
+plain_solve ps (Spans t u) rule each = spans t u rule each
 plain_solve ps (Takes m i b) rule each = takes rule
   where
     takes : {ps : List ClassFact} → ClassRule building ps (Takes m i b) → i ≡ 9
-    takes (taker {k = k} {call = call} at is absorbing) = takes_at i k at.height call (instr_of m at.at).0 is
+    takes (taker {call = call} k at is absorbing) = takes_at i k at.height call (instr_of m at.at).0 is
 
 has_plain : (f : ClassFact) → Classes building f → HasPlain f
 has_plain f x = Least-below (ClassRule building) HasPlain plain_solve f x
@@ -353,25 +369,12 @@ has_plain f x = Least-below (ClassRule building) HasPlain plain_solve f x
 -- ---- what is held
 
 abbrev HoldsBags : HeldFact → Type 0
-HoldsBags (Spans t u) = IsPlain t → IsPlain u
 HoldsBags (TokenHolds t c) = IsPlain t → c ≡ OfBag 2
 HoldsBags (FieldHolds f c) = c ≡ OfBag 2
 
--- a text and a library object have no fields, and of them a library object alone takes something
-no_field : (u f : ℕ) → IsPlain u → HasField building u f → ⊥
-no_field u f (inl e) has = let found : slice_get building.classes 1 ≡ Some has.class.0 = subst (λ (t : ℕ). slice_get building.classes t ≡ Some has.class.0) e has.class.1 in cc found
-no_field u f (inr e) has = let found : slice_get building.classes 2 ≡ Some has.class.0 = subst (λ (t : ℕ). slice_get building.classes t ≡ Some has.class.0) e has.class.1 in cc found
-
-takes_only : (u : ℕ) → IsPlain u → absorbs building u ≡ true → u ≡ 2
-takes_only u (inl e) takes = absurd (let is : absorbs building 1 ≡ true = subst (λ (t : ℕ). absorbs building t ≡ true) e takes in cc is)
-takes_only u (inr e) takes = e
-
 held_solve : (ps : List HeldFact) (f : HeldFact) → HeldRule building (Classes building) ps f → Each HoldsBags ps → HoldsBags f
-held_solve _ _ (itself below) each = λ is. is
-held_solve _ _ (by_field {u = u} f has member) each = λ is. absurd (no_field u f (each.0 is) has)
-held_solve _ _ (by_bag {u = u} {v = v} takes member) each = λ is. has_plain (InBag u v) member (takes_only u (each.0 is) takes)
-held_solve _ _ (holds_field {u = u} {f = f} has) each = λ is. absurd (no_field u f (each.0 is) has)
-held_solve _ _ (holds_bag {u = u} takes) each = λ is. ap OfBag (takes_only u (each.0 is) takes)
+held_solve _ _ (holds_field {t = t} {u = u} {f = f} leads has) each = λ is. absurd (no_field u f (has_plain (Spans t u) leads is) has)
+held_solve _ _ (holds_bag {t = t} {u = u} leads takes) each = λ is. ap OfBag (takes_only u (has_plain (Spans t u) leads is) takes)
 held_solve _ _ (of_field {f = f} {t = t} member) each = each.0 (has_plain (InField f t) member)
 
 pub only_bags : (c : Cell) → Helds building (FieldHolds 0 c) → c ≡ OfBag 2

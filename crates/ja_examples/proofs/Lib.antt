@@ -13,3 +13,9 @@ pub mod Single
 pub mod Carried
 pub mod Stored
 pub mod Clean
+pub mod Initless
+pub mod Quiet
+pub mod Initialised
+pub mod Rested
+pub mod Failed
+pub mod Labelled

@@ -25,7 +25,7 @@ pub all_at : (P : ℕ → Instr → Type 0) (xs : List Instr) → AllFrom P 0 xs
 all_at P xs all k x e = let place : k + 0 ≡ k = omega arith in subst (λ (j : ℕ). P j x) place (all_from P 0 xs all k x e)
 
 -- the one item of a list
-pub only_item : (x y : ℕ) → Contains (x ∷ []) y → y ≡ x
+pub only_item : {A : Type 0} (x y : A) → Contains (x ∷ []) y → y ≡ x
 only_item x y (zero, below, e) = sym e
 only_item x y (suc k, below, e) = absurd (omega (arith, below))
 

@@ -14,18 +14,21 @@ use Rattle.ja_ir.specs.Handlers.{Inside, dest}
 use Rattle.ja_ir.specs.Examples.{at}
 use Rattle.ja_facts.specs.Least.{Each}
 use Rattle.ja_facts.specs.Slots.{Slot, OnStack, CallAt}
-use Rattle.ja_facts.specs.ClassSets.{Fact as ClassFact, Reached, InEnv, InSlot, InThrown, InParam, InResult, InOut, InField, InBag, CallsMethod, CallsAbstract, CallsLibrary, InSpan, Takes, HasField, Rule as ClassRule}
+use Rattle.ja_facts.specs.ClassSets.{Fact as ClassFact, Reached, InEnv, InSlot, InThrown, InParam, InResult, InOut, InField, InBag, CallsMethod, CallsAbstract, CallsLibrary, Spans, Takes, HasField, Rule as ClassRule, spans_itself, spans_field, spans_bag}
 use Rattle.ja_facts.specs.ClassSets.{begins as begins_slot, moved, text_made, made as object_made, array_made, got, got_static, put, put_static, text_field, element_got, handled, handler_keeps, found_method, selects_method, by_static, by_special, answered as call_answered, library_fresh, library_argument, library_member}
-use Rattle.ja_facts.specs.Held.{Fact as HeldFact, Spans, TokenHolds, FieldHolds, Cell, OfField, itself as spans_itself, by_field, by_bag, holds_field, holds_bag, of_field, Rule as HeldRule}
+use Rattle.ja_facts.specs.Held.{Fact as HeldFact, TokenHolds, FieldHolds, Cell, OfField, holds_field, holds_bag, of_field, Rule as HeldRule}
 use Rattle.ja_facts.specs.Formulas.{Assignment, IsNormalEnd}
-use Rattle.ja_facts.specs.Equations.{Fact, Context, At, Normal, Threw, Stored, initialiser_called, constructor_called, entry_called, called, begins, steps, steps_held, returns, caught, callee_caught, leaves, callee_leaves, returned, ended, stored, taken, Reads, reads_field, reads_static, itself, held, stores_field, stores_static, stores_reference, stores_word, stores_pair, IsWarned, Answers}
+use Rattle.ja_facts.specs.Equations.{Fact, Context, At, Normal, Threw, Stored, initialiser_called, constructor_called, entry_called, called, initialised, begins, steps, reads_stored_field, call_resumes, initialiser_resumes, caught, callee_caught, leaves, callee_leaves, method_returns, method_ends, stored, taken, Reads, reads_field, reads_static, itself, held, stores_field, stores_static, stores_reference, stores_word, stores_pair, IsWarned, Answers, Rule, Taints}
 use Rattle.ja_facts.specs.Verdict.{AreVerdicts}
 use Rattle.ja_facts.proofs.LeastLaws.{Least-below}
-use Rattle.ja_examples.specs.Solutions.{Classes, Helds, Heaps, Reaches, Rules, Taints}
+use Rattle.ja_facts.specs.Analyses.{Classes, Helds, analyses_of}
 use Rattle.ja_examples.specs.Library.{sink}
 use Rattle.ja_examples.specs.Parting.{parting, parting_main, parted_site, two_fields}
 use Rattle.ja_examples.proofs.Clean.{outside, no_copy, text_turns, lowest_argument}
 use Rattle.ja_examples.proofs.Listed.{AllFrom, all_at, no_item, next_of, flag_of}
+use Rattle.ja_ir.specs.Initializing.{inits_of_class}
+use Rattle.ja_examples.proofs.Deriving.{Known}
+use Rattle.ja_examples.proofs.Initless.{no_init}
 
 -- ---- the instructions
 
@@ -102,6 +105,11 @@ no_dest : (m i t j : ℕ) → Contains (dest parting m i t) (Inside j) → ⊥
 no_dest zero i t j c = outside c
 no_dest (suc m) i t j c = outside c
 
+-- no class has a class initialiser
+no_inits : (c : ℕ) → inits_of_class (slice_get parting.classes c) ≡ []
+no_inits zero = refl
+no_inits (suc c) = refl
+
 -- ---- the second field has texts alone
 
 -- the value that instruction 6 writes
@@ -112,6 +120,7 @@ abbrev HasTexts : ClassFact → Type 0
 HasTexts (InSlot m i z t) = IsValue i z → t ≡ 1
 HasTexts (InField f t) = f ≡ 1 → t ≡ 1
 HasTexts (CallsMethod m i n) = ⊥
+HasTexts (Spans t u) = t ≡ 1 → u ≡ 1
 HasTexts _ = Unit {0}
 
 no_text : (m i j under : ℕ) {call : CallOp} {t : ℕ} → CallAt parting m i call under → Leads parting m i j → j ≡ 6 → t ≡ 1
@@ -136,7 +145,7 @@ in_slot m j y t (handler_keeps {i = i} {t = thrown} goes) each is = absurd (no_d
 in_slot m j y t (call_answered at l) each is = absurd each.1.0
 in_slot m j y t (library_fresh {i = i} {under = under} at l has new fits) each is = no_text m i j under at l is.0
 in_slot m j y t (library_argument {i = i} {under = under} at l has self some fits) each is = no_text m i j under at l is.0
-in_slot m j y t (library_member {i = i} {under = under} at l has from fits) each is = no_text m i j under at l is.0
+in_slot m j y t (library_member {i = i} {under = under} k at l has from fits) each is = no_text m i j under at l is.0
 
 no_constant : (f : ℕ) (field : Field) → slice_get two_fields f ≡ Some field → field.text ≡ true → ⊥
 no_constant zero field found text = let flag : Some false ≡ Some field.text = ap flag_of found in absurd (cc (flag, text))
@@ -151,6 +160,18 @@ in_field f t (put {m = m} {i = i} {k = k} o) each e =
 in_field f t (put_static {m = m} o) each e = absurd (of_main m o)
 in_field f t (text_field field found text) each e = absurd (no_constant f field found text)
 
+-- a text has no fields, and takes nothing
+no_field : (u f : ℕ) → u ≡ 1 → HasField parting u f → ⊥
+no_field u f e has = let found : slice_get parting.classes 1 ≡ Some has.class.0 = subst (λ (t : ℕ). slice_get parting.classes t ≡ Some has.class.0) e has.class.1 in cc found
+
+no_bag : (u : ℕ) → u ≡ 1 → absorbs parting u ≡ true → ⊥
+no_bag u e has = let is : absorbs parting 1 ≡ true = subst (λ (t : ℕ). absorbs parting t ≡ true) e has in cc is
+
+spans : {ps : List ClassFact} (t u : ℕ) → ClassRule parting ps (Spans t u) → Each HasTexts ps → t ≡ 1 → u ≡ 1
+spans t u spans_itself each e = e
+spans t u (spans_field {u = v} f has) each e = absurd (no_field v f (each.0 e) has)
+spans t u (spans_bag {u = v} takes) each e = absurd (no_bag v (each.0 e) takes)
+
 texts_solve : (ps : List ClassFact) (f : ClassFact) → ClassRule parting ps f → Each HasTexts ps → HasTexts f
 texts_solve ps (Reached m i) rule each = tt
 texts_solve ps (InEnv t) rule each = tt
@@ -164,7 +185,7 @@ texts_solve ps (InBag b t) rule each = tt
 texts_solve ps (CallsMethod m i n) rule each = no_callee m i n rule
 texts_solve ps (CallsAbstract m i n) rule each = tt
 texts_solve ps (CallsLibrary m i) rule each = tt
-texts_solve ps (InSpan m i k t) rule each = tt
+texts_solve ps (Spans t u) rule each = spans t u rule each
 texts_solve ps (Takes m i b) rule each = tt
 
 has_texts : (f : ClassFact) → Classes parting f → HasTexts f
@@ -173,23 +194,12 @@ has_texts f x = Least-below (ClassRule parting) HasTexts texts_solve f x
 -- ---- so it holds nothing
 
 abbrev HoldsNothing : HeldFact → Type 0
-HoldsNothing (Spans t u) = t ≡ 1 → u ≡ 1
 HoldsNothing (TokenHolds t c) = t ≡ 1 → ⊥
 HoldsNothing (FieldHolds f c) = f ≡ 1 → ⊥
 
--- a text has no fields, and takes nothing
-no_field : (u f : ℕ) → u ≡ 1 → HasField parting u f → ⊥
-no_field u f e has = let found : slice_get parting.classes 1 ≡ Some has.class.0 = subst (λ (t : ℕ). slice_get parting.classes t ≡ Some has.class.0) e has.class.1 in cc found
-
-no_bag : (u : ℕ) → u ≡ 1 → absorbs parting u ≡ true → ⊥
-no_bag u e has = let is : absorbs parting 1 ≡ true = subst (λ (t : ℕ). absorbs parting t ≡ true) e has in cc is
-
 held_solve : (ps : List HeldFact) (f : HeldFact) → HeldRule parting (Classes parting) ps f → Each HoldsNothing ps → HoldsNothing f
-held_solve _ _ (spans_itself below) each = λ e. e
-held_solve _ _ (by_field {u = u} f has member) each = λ e. absurd (no_field u f (each.0 e) has)
-held_solve _ _ (by_bag {u = u} takes member) each = λ e. absurd (no_bag u (each.0 e) takes)
-held_solve _ _ (holds_field {u = u} {f = f} has) each = λ e. no_field u f (each.0 e) has
-held_solve _ _ (holds_bag {u = u} takes) each = λ e. no_bag u (each.0 e) takes
+held_solve _ _ (holds_field {t = t} {u = u} {f = f} leads has) each = λ e. no_field u f (has_texts (Spans t u) leads e) has
+held_solve _ _ (holds_bag {t = t} {u = u} leads takes) each = λ e. no_bag u (has_texts (Spans t u) leads e) takes
 held_solve _ _ (of_field {f = f} {t = t} member) each = λ e. each.0 (has_texts (InField f t) member e)
 
 pub holds_nothing : (c : Cell) → Helds parting (FieldHolds 1 c) → ⊥
@@ -204,10 +214,10 @@ IsClean (Normal m a s) = Unit {0}
 IsClean (Threw m a s) = Unit {0}
 IsClean (Stored c) = c ≡ OfField 1 → ⊥
 
-after_text : (m i j : ℕ) (b after : Assignment) → Leads parting m i j → IsNormalEnd parting (Classes parting) (Heaps parting) (Reaches parting) m i b after → j ≡ 6 → after.slot (OnStack 2) ≡ false
+after_text : (m i j : ℕ) (b after : Assignment) → Leads parting m i j → IsNormalEnd parting (analyses_of parting) m i b after → j ≡ 6 → after.slot (OnStack 2) ≡ false
 after_text m i j b after l ends e =
     let same : at 5 Text (6 ∷ []) 2 ≡ ends.instr = the_text m i ends.instr ends.found (before m i j 5 l e) in
-    text_turns (Heaps parting) (Reaches parting) m i b (ap (λ (x : Instr). x.op) same) (ap (λ (x : Instr). OnStack x.height) same) (ends.slots (OnStack 2))
+    text_turns (analyses_of parting) m i b (ap (λ (x : Instr). x.op) same) (ap (λ (x : Instr). OnStack x.height) same) (ends.slots (OnStack 2))
 
 -- instruction 7 reads the second field into the lowest place of the stack
 reads_second : (m i j : ℕ) {op : Op} {height : ℕ} → OpAt parting m i op height → Leads parting m i j → j ≡ 8 → Reads op height 1 (OnStack 0)
@@ -231,27 +241,29 @@ one_read reads_static second = of_static_read second
 same_cell : (f : ℕ) → OfField f ≡ OfField 1 → f ≡ 1
 same_cell f e = cc e
 
-clean_solve : (ps : List Fact) (f : Fact) → Rules parting ps f → Each IsClean ps → IsClean f
-clean_solve _ _ (initialiser_called x) each = tt
-clean_solve _ _ (constructor_called entry objects cons) each = tt
-clean_solve _ _ (entry_called entry method cells x may dirt exc) each = tt
+clean_solve : (ps : List Fact) (f : Fact) → Rule parting (analyses_of parting) ps f → Each IsClean ps → IsClean f
+clean_solve _ _ (initialiser_called x is) each = tt
+clean_solve _ _ (constructor_called entry objects cons is) each = tt
+clean_solve _ _ (entry_called entry cells x) each = tt
 clean_solve _ _ (called x) each = tt
+clean_solve _ _ (initialised x is) each = tt
 clean_solve _ _ begins each = (λ e. absurd (omega (arith, e)), λ e. absurd (omega (arith, e)))
 clean_solve _ _ (steps {m = m} {i = i} {j = j} {b = b} {after = after} o l ends reads) each =
     (after_text m i j b after l ends, λ e. reads 1 (OnStack 0) (reads_second m i j o l e))
-clean_solve _ _ (steps_held {m = m} {i = i} {j = j} {b = b} {after = after} o l ends reads true_one answers) each =
+clean_solve _ _ (reads_stored_field {m = m} {i = i} {j = j} {b = b} {after = after} o l ends reads true_one answers) each =
     (after_text m i j b after l ends, λ e. absurd (no_answer (one_read reads (reads_second m i j o l e)) answers each.1.0))
   where
-    no_answer : {f : ℕ} {cell : Cell} → f ≡ 1 → Answers (Helds parting) f cell → IsClean (Stored cell) → ⊥
+    no_answer : {f : ℕ} {cell : Cell} → f ≡ 1 → Answers (analyses_of parting) f cell → IsClean (Stored cell) → ⊥
     no_answer e itself clean = clean (ap OfField e)
     no_answer {cell = cell} e (held h) clean = holds_nothing cell (subst (λ (g : ℕ). Helds parting (FieldHolds g cell)) e h)
-clean_solve _ _ (returns {m = m} {i = i} {n = n} calls l h) each = absurd (has_texts (CallsMethod m i n) calls.goes)
+clean_solve _ _ (call_resumes {m = m} {i = i} {n = n} calls l h) each = absurd (has_texts (CallsMethod m i n) calls.goes)
+clean_solve _ _ (initialiser_resumes o x is h) each = absurd (no_init parting no_inits x)
 clean_solve _ _ (caught {m = m} {i = i} {j = j} {t = t} x goes ends h) each = absurd (no_dest m i t j goes)
 clean_solve _ _ (callee_caught {m = m} {i = i} {n = n} calls x goes ends h) each = absurd (has_texts (CallsMethod m i n) calls.goes)
 clean_solve _ _ (leaves x goes ends) each = tt
 clean_solve _ _ (callee_leaves calls x goes ends) each = tt
-clean_solve _ _ (returned o) each = tt
-clean_solve _ _ (ended o) each = tt
+clean_solve _ _ (method_returns o) each = tt
+clean_solve _ _ (method_ends o) each = tt
 clean_solve _ _ (stored {m = m} {i = i} {b = b} o (stores_field {f = f} {height = height} {k = k} h) is) each =
     λ e.
     let here : (i ≡ 6) × (height ≡ 3) = of_main m o (same_cell f e) in
@@ -264,13 +276,13 @@ clean_solve _ _ (stored o (stores_word h) is) each = λ e. cc e
 clean_solve _ _ (stored o (stores_pair h) is) each = λ e. cc e
 clean_solve _ _ (taken at takes is) each = λ e. cc e
 
-is_clean : (f : Fact) → Taints parting f → IsClean f
-is_clean f x = Least-below (Rules parting) IsClean clean_solve f x
+is_clean : (f : Fact) → Known parting f → IsClean f
+is_clean f x = Least-below (Rule parting (analyses_of parting)) IsClean clean_solve f x
 
-pub not_stored : Taints parting (Stored (OfField 1)) → ⊥
+pub not_stored : Known parting (Stored (OfField 1)) → ⊥
 not_stored x = is_clean (Stored (OfField 1)) x refl
 
-pub not_warned : IsWarned parting (Taints parting) parted_site → ⊥
+pub not_warned : IsWarned parting (Known parting) parted_site → ⊥
 not_warned w =
     let clean : w.b.slot (OnStack 0) ≡ false = (is_clean (At 0 8 w.a w.b) w.fact).1 refl in
     let is : w.b.slot (OnStack 0) ≡ true = subst (λ (z : Slot). w.b.slot z ≡ true) (lowest_argument parting 0 8 (at 8 (Call sink) (9 ∷ []) 1) w.call w.under w.k refl refl refl w.at w.listed) w.true_argument in

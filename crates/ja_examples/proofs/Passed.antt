@@ -1,19 +1,20 @@
 -- The facts of the program in which a call returns its tainted argument.
-use Rattle.std.proofs.Common.{lit<, ◌≡◌, ℕ, zero, suc, ◌<◌, false, [], ◌∷◌, Some, refl, arith}
+use Rattle.std.proofs.Common.{lit<, ◌≡◌, ℕ, zero, suc, ◌<◌, true, false, [], ◌∷◌, Some, refl, arith}
 use Rattle.ja_base.specs.declared.java_type.Kind.TheVariants.{R}
 use Rattle.ja_ir.specs.declared.op.Op.TheVariants.{Load, Call, Return}
 use Rattle.ja_ir.specs.Lookup.{OpAt}
 use Rattle.ja_ir.specs.Examples.{at}
-use Rattle.ja_facts.specs.Slots.{Slot, Local, OnStack, CallAt, kept_local, loaded}
+use Rattle.ja_facts.specs.Slots.{Slot, Local, OnStack, CallAt, kept_local, loaded, left_local}
 use Rattle.ja_facts.specs.Actions.{IsEntry}
 use Rattle.ja_facts.specs.ClassSets.{Reached, CallsLibrary, CallsMethod, entry_runs}
 use Rattle.ja_facts.specs.Formulas.{Turns, copied, above, answered, IsReturn, CallTurns, call_kept, call_answered, call_above}
-use Rattle.ja_facts.specs.Equations.{Context, At, Normal, nothing, entry_called, called, begins, returns, returned, HandsOver, Calls, IsWarned}
-use Rattle.ja_examples.specs.Solutions.{Classes, Heaps, Reaches, Taints}
+use Rattle.ja_facts.specs.Equations.{Context, At, Normal, entry_called, called, begins, HandsOver, Calls, IsWarned, call_resumes, method_returns}
+use Rattle.ja_facts.specs.Analyses.{Classes, analyses_of}
 use Rattle.ja_examples.specs.Truth.{only, tainted_result}
-use Rattle.ja_examples.specs.Library.{string, source, sink}
+use Rattle.ja_examples.specs.Library.{source, sink}
 use Rattle.ja_examples.specs.Passing.{passing, passing_pass, passing_main, passing_entry, pass, passed_site}
-use Rattle.ja_examples.proofs.Deriving.{by_class, by_taint, Goes, op_at, leads, next, to_library, to_callee, step, no_read}
+use Rattle.ja_examples.proofs.Deriving.{by_class, by_taint, Goes, op_at, leads, next, to_library, to_callee, step, no_read, Known, nothing_begins}
+use Rattle.ja_facts.specs.Example.{nothing}
 
 goes0 : Goes passing 1 0 1 (at 0 (Call source) (1 ∷ []) 0)
 goes0 = record { found = refl; listed = (0, lit< tt, refl) }
@@ -52,18 +53,18 @@ calls_pass : Classes passing (CallsMethod 1 1 0)
 calls_pass = to_callee passing passing_pass at_pass refl refl refl refl reached1
 
 -- main's source
-source_slots : (y : Slot) → Turns (Heaps passing) (Reaches passing) 1 0 nothing (Call source) 0 y ((only (OnStack 0 ∷ [])).slot y)
+source_slots : (y : Slot) → Turns (analyses_of passing) 1 0 nothing (Call source) 0 y ((only (OnStack 0 ∷ [])).slot y)
 source_slots (Local l) = copied (kept_local tt)
 source_slots (OnStack zero) = answered 0 refl refl (λ t. refl)
 source_slots (OnStack (suc k)) = above (omega arith)
 
-context : Taints passing (Context 1 nothing)
-context = by_taint passing [] (Context 1 nothing) (entry_called passing_entry passing_main [] main_entry (λ z t. absurd (cc t)) refl refl) tt
+context : Known passing (Context 1 nothing)
+context = by_taint passing [] (Context 1 nothing) (entry_called passing_entry [] (nothing_begins passing main_entry)) tt
 
-entered : Taints passing (At 1 0 nothing nothing)
+entered : Known passing (At 1 0 nothing nothing)
 entered = by_taint passing (Context 1 nothing ∷ []) (At 1 0 nothing nothing) begins (context, tt)
 
-before_call : Taints passing (At 1 1 nothing (only (OnStack 0 ∷ [])))
+before_call : Known passing (At 1 1 nothing (only (OnStack 0 ∷ [])))
 before_call =
     step passing goes0 (record { reached = refl; goes_on = refl; library = sources; slots = source_slots; dirt = refl; exc = refl }) (no_read refl) entered
 
@@ -81,20 +82,20 @@ hands = record {
   exc = refl;
 }
 
-calls : Calls passing (Classes passing) 1 1 0 pass 0 (only (OnStack 0 ∷ [])) (only (Local 0 ∷ []))
+calls : Calls passing (analyses_of passing) 1 1 0 pass 0 (only (OnStack 0 ∷ [])) (only (Local 0 ∷ []))
 calls = record { at = at_pass; goes = calls_pass; method = passing_pass; found = refl; hands = hands }
 
-pub callee_context : Taints passing (Context 0 (only (Local 0 ∷ [])))
+pub callee_context : Known passing (Context 0 (only (Local 0 ∷ [])))
 callee_context = by_taint passing (At 1 1 nothing (only (OnStack 0 ∷ [])) ∷ []) (Context 0 (only (Local 0 ∷ []))) (called calls) (before_call, tt)
 
 -- the method loads its parameter and returns it
-load_slots : (y : Slot) → Turns (Heaps passing) (Reaches passing) 0 0 (only (Local 0 ∷ [])) (Load R 0) 0 y ((only (Local 0 ∷ OnStack 0 ∷ [])).slot y)
+load_slots : (y : Slot) → Turns (analyses_of passing) 0 0 (only (Local 0 ∷ [])) (Load R 0) 0 y ((only (Local 0 ∷ OnStack 0 ∷ [])).slot y)
 load_slots (Local zero) = copied (kept_local tt)
 load_slots (Local (suc l)) = copied (kept_local tt)
 load_slots (OnStack zero) = copied loaded
 load_slots (OnStack (suc k)) = above (omega arith)
 
-inside : Taints passing (At 0 1 (only (Local 0 ∷ [])) (only (Local 0 ∷ OnStack 0 ∷ [])))
+inside : Known passing (At 0 1 (only (Local 0 ∷ [])) (only (Local 0 ∷ OnStack 0 ∷ [])))
 inside =
     step passing inside0 (record { reached = refl; goes_on = refl; library = tt; slots = load_slots; dirt = refl; exc = refl }) (no_read refl)
     (by_taint passing (Context 0 (only (Local 0 ∷ [])) ∷ []) (At 0 0 (only (Local 0 ∷ [])) (only (Local 0 ∷ []))) begins (callee_context, tt))
@@ -102,23 +103,23 @@ inside =
 return_at : OpAt passing 0 1 (Return (Some R)) 1
 return_at = record { instr = at 1 (Return (Some R)) [] 1; found = refl; is_op = refl; is_height = refl }
 
-pub callee_returned : Taints passing (Normal 0 (only (Local 0 ∷ [])) tainted_result)
+pub callee_returned : Known passing (Normal 0 (only (Local 0 ∷ [])) tainted_result)
 callee_returned =
-    by_taint passing (At 0 1 (only (Local 0 ∷ [])) (only (Local 0 ∷ OnStack 0 ∷ [])) ∷ []) (Normal 0 (only (Local 0 ∷ [])) tainted_result) (returned return_at) (inside, tt)
+    by_taint passing (At 0 1 (only (Local 0 ∷ [])) (only (Local 0 ∷ OnStack 0 ∷ [])) ∷ []) (Normal 0 (only (Local 0 ∷ [])) tainted_result) (method_returns return_at) (inside, tt)
 
 -- and the result is on the caller's stack
-return_slots : (y : Slot) → CallTurns (Heaps passing) 1 1 0 (only (OnStack 0 ∷ [])) tainted_result pass 0 y ((only (OnStack 0 ∷ [])).slot y)
-return_slots (Local l) = call_kept (kept_local tt)
-return_slots (OnStack zero) = call_answered (string, refl, refl)
+return_slots : (y : Slot) → CallTurns (analyses_of passing) 1 1 0 1 0 true (only (OnStack 0 ∷ [])) tainted_result y ((only (OnStack 0 ∷ [])).slot y)
+return_slots (Local l) = call_kept left_local
+return_slots (OnStack zero) = call_answered refl
 return_slots (OnStack (suc k)) = call_above (omega arith)
 
-return : IsReturn (Heaps passing) 1 1 0 (only (OnStack 0 ∷ [])) tainted_result pass 0 (only (OnStack 0 ∷ []))
+return : IsReturn (analyses_of passing) 1 1 0 1 0 true (only (OnStack 0 ∷ [])) tainted_result (only (OnStack 0 ∷ []))
 return = record { slots = return_slots; dirt = refl; exc = refl }
 
-pub after_call : Taints passing (At 1 2 nothing (only (OnStack 0 ∷ [])))
+pub after_call : Known passing (At 1 2 nothing (only (OnStack 0 ∷ [])))
 after_call =
     by_taint passing (At 1 1 nothing (only (OnStack 0 ∷ [])) ∷ Normal 0 (only (Local 0 ∷ [])) tainted_result ∷ []) (At 1 2 nothing (only (OnStack 0 ∷ [])))
-    (returns calls (leads passing goes1) return) (before_call, (callee_returned, tt))
+    (call_resumes calls (leads passing goes1) return) (before_call, (callee_returned, tt))
 
-pub warned : IsWarned passing (Taints passing) passed_site
+pub warned : IsWarned passing (Known passing) passed_site
 warned = record { call = sink; under = 0; at = at_sink; a = nothing; b = only (OnStack 0 ∷ []); fact = after_call; k = 0; listed = (0, lit< tt, refl); true_argument = refl }

@@ -1,6 +1,6 @@
 -- What the calls of the program with two virtual calls do not go to, and its second sink call, which is clean.
 use Rattle.std.proofs.Common.{◌≡◌, ◌⊎◌, inl, inr, ℕ, zero, suc, ◌+◌, Bool, true, false, List, [], ◌∷◌, Some, refl, sym, ap, subst, ◌∙◌, arith}
-use Rattle.std.specs.Prelude.{Contains}
+use Rattle.std.specs.Prelude.{Contains, slice_get}
 use Rattle.ja_base.specs.declared.id.MethodId.{MethodId}
 use Rattle.ja_ir.specs.declared.op.Token.{Token}
 use Rattle.ja_ir.specs.declared.class.MethodAt.{MethodAt}
@@ -15,17 +15,21 @@ use Rattle.ja_ir.specs.Operations.{arguments, is_dispatched}
 use Rattle.ja_ir.specs.Handlers.{Inside, dest}
 use Rattle.ja_ir.specs.Examples.{at}
 use Rattle.ja_facts.specs.Least.{Each}
-use Rattle.ja_facts.specs.Slots.{Slot, OnStack, Copies, CallAt, kept_local, kept_stack}
-use Rattle.ja_facts.specs.ClassSets.{Fact as ClassFact, Reached, InEnv, InSlot, InThrown, InParam, InResult, InOut, InField, InBag, CallsMethod, CallsAbstract, CallsLibrary, InSpan, Takes, Dispatches, IsClass, Finds, Rule as ClassRule}
+use Rattle.ja_facts.specs.Slots.{Slot, OnStack, CallAt, IsLeft, left_local, left_stack}
+use Rattle.ja_facts.specs.ClassSets.{Fact as ClassFact, Reached, InEnv, InSlot, InThrown, InParam, InResult, InOut, InField, InBag, CallsMethod, CallsAbstract, CallsLibrary, Spans, Takes, Dispatches, IsClass, Finds, Rule as ClassRule}
 use Rattle.ja_facts.specs.ClassSets.{begins as begins_slot, moved, text_made, made as object_made, array_made, got, got_static, element_got, handled, handler_keeps, found_method, found_library, selects_method, selects_library, selected, elsewhere, by_static, by_special, in_static_field, in_member_field, answered as call_answers, library_fresh, library_argument, library_member}
 use Rattle.ja_facts.specs.Formulas.{Assignment, Summary, IsNormalEnd, IsLibraryPart, CallTurns, call_kept, call_affected, call_answered, call_above}
-use Rattle.ja_facts.specs.Equations.{Fact, Context, At, Normal, Threw, Stored, initialiser_called, constructor_called, entry_called, called, begins, steps, steps_held, returns, caught, callee_caught, leaves, callee_leaves, returned, ended, stored, taken, IsWarned}
+use Rattle.ja_facts.specs.Equations.{Fact, Context, At, Normal, Threw, Stored, initialiser_called, constructor_called, entry_called, called, initialised, begins, steps, reads_stored_field, call_resumes, initialiser_resumes, caught, callee_caught, leaves, callee_leaves, method_returns, method_ends, stored, taken, IsWarned, Rule}
 use Rattle.ja_facts.proofs.LeastLaws.{Least-below}
-use Rattle.ja_examples.specs.Solutions.{Classes, Heaps, Reaches, Rules, Taints}
+use Rattle.ja_facts.specs.Analyses.{Classes, analyses_of}
 use Rattle.ja_examples.specs.Library.{sink}
 use Rattle.ja_examples.specs.Choosing.{choosing, choosing_r, single_main, choosing_site, call_m, class_r}
 use Rattle.ja_examples.proofs.Clean.{outside, no_copy, text_turns, lowest_argument}
 use Rattle.ja_examples.proofs.Listed.{AllFrom, all_at, no_item, next_of}
+use Rattle.ja_facts.specs.Crossings.{has_result}
+use Rattle.ja_ir.specs.Initializing.{inits_of_class}
+use Rattle.ja_examples.proofs.Deriving.{Known}
+use Rattle.ja_examples.proofs.Initless.{no_init}
 
 -- ---- the instructions of R's method and of the second main
 
@@ -127,7 +131,7 @@ in_slot m j y t (handler_keeps {i = i} {t = thrown} goes) each e f g = absurd (n
 in_slot m j y t (call_answers {i = i} {under = under} at l) each e f g = not_call m i j under at l e f
 in_slot m j y t (library_fresh {i = i} {under = under} at l has new fits) each e f g = not_call m i j under at l e f
 in_slot m j y t (library_argument {i = i} {under = under} at l has self some fits) each e f g = not_call m i j under at l e f
-in_slot m j y t (library_member {i = i} {under = under} at l has from fits) each e f g = not_call m i j under at l e f
+in_slot m j y t (library_member {i = i} {under = under} k at l has from fits) each e f g = not_call m i j under at l e f
 
 chosen : (call : CallOp) (t : ℕ) {target : MethodAt} → Dispatches choosing call t target → (target ≡ select choosing t call.name call.desc) ⊎ ((target ≡ Library) × (IsClass choosing t → ⊥))
 chosen call t (selected class fit) = inl refl
@@ -210,7 +214,7 @@ selects_solve ps (InBag b t) rule each = tt
 selects_solve ps (CallsMethod m i n) rule each = (calls_one m i n rule each, no_call_in_r m i n rule)
 selects_solve ps (CallsAbstract m i n) rule each = tt
 selects_solve ps (CallsLibrary m i) rule each = no_library m i rule each
-selects_solve ps (InSpan m i k t) rule each = tt
+selects_solve ps (Spans t u) rule each = tt
 selects_solve ps (Takes m i b) rule each = tt
 
 class_fact : (f : ClassFact) → Classes choosing f → SelectsR f
@@ -228,63 +232,73 @@ IsClean (Normal m a s) = m ≡ 1 → s.result ≡ false
 IsClean (Threw m a s) = Unit {0}
 IsClean (Stored c) = Unit {0}
 
-after_text : (m i j : ℕ) (b after : Assignment) → Leads choosing m i j → IsNormalEnd choosing (Classes choosing) (Heaps choosing) (Reaches choosing) m i b after → m ≡ 1 → j ≡ 1 → after.slot (OnStack 0) ≡ false
+after_text : (m i j : ℕ) (b after : Assignment) → Leads choosing m i j → IsNormalEnd choosing (analyses_of choosing) m i b after → m ≡ 1 → j ≡ 1 → after.slot (OnStack 0) ≡ false
 after_text m i j b after l ends e f =
     let same : at 0 Text (1 ∷ []) 0 ≡ ends.instr = the_text m i j ends.instr e f l ends.found in
-    text_turns (Heaps choosing) (Reaches choosing) m i b (ap (λ (x : Instr). x.op) same) (ap (λ (x : Instr). OnStack x.height) same) (ends.slots (OnStack 0))
+    text_turns (analyses_of choosing) m i b (ap (λ (x : Instr). x.op) same) (ap (λ (x : Instr). OnStack x.height) same) (ends.slots (OnStack 0))
 
 -- the second main's call has no library part
-no_part : (m i j : ℕ) (b after : Assignment) → Leads choosing m i j → IsNormalEnd choosing (Classes choosing) (Heaps choosing) (Reaches choosing) m i b after → m ≡ 3 → j ≡ 2 → ⊥
+no_part : (m i j : ℕ) (b after : Assignment) → Leads choosing m i j → IsNormalEnd choosing (analyses_of choosing) m i b after → m ≡ 3 → j ≡ 2 → ⊥
 no_part m i j b after l ends e f =
     let first : i ≡ 1 = (let next : j ≡ suc i = next_in_single m i j e l in omega (arith, next, f)) in
     let found : instr_at choosing 3 1 ≡ Some ends.instr = subst (λ (k : ℕ). instr_at choosing 3 k ≡ Some ends.instr) first (subst (λ (n : ℕ). instr_at choosing n i ≡ Some ends.instr) e ends.found) in
     let same : at 1 (Call call_m) (2 ∷ []) 1 ≡ ends.instr = cc found in
-    let part : Classes choosing (CallsLibrary m i) = subst (λ (x : Instr). IsLibraryPart (Classes choosing) m i x.op) (sym same) ends.library in
+    let part : Classes choosing (CallsLibrary m i) = subst (λ (x : Instr). IsLibraryPart (analyses_of choosing) m i x.op) (sym same) ends.library in
     class_fact (CallsLibrary m i) part e first
 
-popped_receiver : (call : CallOp) (under : ℕ) {z y : Slot} → under ≡ 0 → y ≡ OnStack 0 → Copies (Call call) (under + arguments call) z y → ⊥
-popped_receiver call under low e (kept_local k) = cc e
-popped_receiver call under low e (kept_stack {k = k} h) = omega (arith, h, low)
+popped_receiver : {y : Slot} (under : ℕ) → under ≡ 0 → y ≡ OnStack 0 → IsLeft under y → ⊥
+popped_receiver under low e left_local = cc e
+popped_receiver under low e (left_stack {k = k} h) = let same : k ≡ 0 = cc e in omega (arith, h, low, same)
 
 -- what it pushes is the callee's result
-result_turns : (m i n under : ℕ) (b : Assignment) (s : Summary) (call : CallOp) {y : Slot} {t : Bool} → under ≡ 0 → y ≡ OnStack 0 → s.result ≡ false → CallTurns (Heaps choosing) m i n b s call under y t → t ≡ false
-result_turns m i n under b s call low e clean (call_kept c) = absurd (popped_receiver call under low e c)
-result_turns m i n under b s call low e clean (call_affected c affected h) = absurd (popped_receiver call under low e c)
-result_turns m i n under b s call low e clean (call_answered answers) = clean
-result_turns m i n under b s call low e clean (call_above h) = refl
+result_turns : (m i n count under : ℕ) (answers : Bool) (b : Assignment) (s : Summary) {y : Slot} {t : Bool} → under ≡ 0 → y ≡ OnStack 0 → s.result ≡ false
+    → CallTurns (analyses_of choosing) m i n count under answers b s y t → t ≡ false
+result_turns m i n count under answers b s low e clean (call_kept left) = absurd (popped_receiver under low e left)
+result_turns m i n count under answers b s low e clean (call_affected left affected h) = absurd (popped_receiver under low e left)
+result_turns m i n count under answers b s low e clean (call_answered is) = clean
+result_turns m i n count under answers b s low e clean (call_above h) = refl
 
-clean_solve : (ps : List Fact) (f : Fact) → Rules choosing ps f → Each IsClean ps → IsClean f
-clean_solve _ _ (initialiser_called x) each = tt
-clean_solve _ _ (constructor_called entry objects cons) each = tt
-clean_solve _ _ (entry_called entry method cells x may dirt exc) each = tt
+-- no class has a class initialiser
+no_inits : (c : ℕ) → inits_of_class (slice_get choosing.classes c) ≡ []
+no_inits zero = refl
+no_inits (suc zero) = refl
+no_inits (suc (suc zero)) = refl
+no_inits (suc (suc (suc c))) = refl
+
+clean_solve : (ps : List Fact) (f : Fact) → Rule choosing (analyses_of choosing) ps f → Each IsClean ps → IsClean f
+clean_solve _ _ (initialiser_called x is) each = tt
+clean_solve _ _ (constructor_called entry objects cons is) each = tt
+clean_solve _ _ (entry_called entry cells x) each = tt
 clean_solve _ _ (called x) each = tt
+clean_solve _ _ (initialised x is) each = tt
 clean_solve _ _ begins each = (λ e f. absurd (omega (arith, f)), λ e f. absurd (omega (arith, f)))
 clean_solve _ _ (steps {m = m} {i = i} {j = j} {b = b} {after = after} o l ends reads) each =
     (after_text m i j b after l ends, λ e f. absurd (no_part m i j b after l ends e f))
-clean_solve _ _ (steps_held {m = m} {i = i} {j = j} {b = b} {after = after} o l ends reads true_one answers) each =
+clean_solve _ _ (reads_stored_field {m = m} {i = i} {j = j} {b = b} {after = after} o l ends reads true_one answers) each =
     (after_text m i j b after l ends, λ e f. absurd (no_part m i j b after l ends e f))
-clean_solve _ _ (returns {m = m} {i = i} {j = j} {n = n} {under = under} {call = call} {b = b} {after = after} {s = s} calls l ret) each = (
+clean_solve _ _ (initialiser_resumes o x is h) each = absurd (no_init choosing no_inits x)
+clean_solve _ _ (call_resumes {m = m} {i = i} {j = j} {n = n} {under = under} {call = call} {b = b} {after = after} {s = s} calls l ret) each = (
   λ e f. absurd ((class_fact (CallsMethod m i n) calls.goes).1 e),
   λ e f.
       let first : i ≡ 1 = (let next : j ≡ suc i = next_in_single m i j e l in omega (arith, next, f)) in
-      result_turns m i n under b s call (is_virtual m i calls.at e first).0 refl (each.1.0 ((class_fact (CallsMethod m i n) calls.goes).0 e)) (ret.slots (OnStack 0)),
+      result_turns m i n (arguments call) under (has_result call.result) b s (is_virtual m i calls.at e first).0 refl (each.1.0 ((class_fact (CallsMethod m i n) calls.goes).0 e)) (ret.slots (OnStack 0)),
 )
 clean_solve _ _ (caught {m = m} {i = i} {j = j} {t = t} x goes ends h) each = absurd (no_dest m i t j goes)
 clean_solve _ _ (callee_caught {m = m} {i = i} {j = j} {t = t} calls x goes ends h) each = absurd (no_dest m i t j goes)
 clean_solve _ _ (leaves x goes ends) each = tt
 clean_solve _ _ (callee_leaves calls x goes ends) each = tt
-clean_solve _ _ (returned {m = m} {i = i} {k = k} {b = b} o) each = λ e.
+clean_solve _ _ (method_returns {m = m} {i = i} {k = k} {b = b} o) each = λ e.
     let here : (i ≡ 1) × (suc k ≡ 1) = of_r m e o in
     let low : k ≡ 0 = (let one : suc k ≡ 1 = here.1 in omega (arith, one)) in
     ap (λ (n : ℕ). b.slot (OnStack n)) low ∙ each.0.0 e here.0
-clean_solve _ _ (ended o) each = λ e. refl
+clean_solve _ _ (method_ends o) each = λ e. refl
 clean_solve _ _ (stored o s is) each = tt
 clean_solve _ _ (taken at takes is) each = tt
 
-is_clean : (f : Fact) → Taints choosing f → IsClean f
-is_clean f x = Least-below (Rules choosing) IsClean clean_solve f x
+is_clean : (f : Fact) → Known choosing f → IsClean f
+is_clean f x = Least-below (Rule choosing (analyses_of choosing)) IsClean clean_solve f x
 
-pub not_warned : IsWarned choosing (Taints choosing) (choosing_site 3 2) → ⊥
+pub not_warned : IsWarned choosing (Known choosing) (choosing_site 3 2) → ⊥
 not_warned w =
     let clean : w.b.slot (OnStack 0) ≡ false = (is_clean (At 3 2 w.a w.b) w.fact).1 refl refl in
     let is : w.b.slot (OnStack 0) ≡ true = subst (λ (z : Slot). w.b.slot z ≡ true) (lowest_argument choosing 3 2 (at 2 (Call sink) (3 ∷ []) 1) w.call w.under w.k refl refl refl w.at w.listed) w.true_argument in

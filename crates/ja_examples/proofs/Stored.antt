@@ -3,19 +3,20 @@ use Rattle.std.proofs.Common.{lit<, zero, suc, false, [], ◌∷◌, refl, arith
 use Rattle.ja_base.specs.declared.java_type.Kind.TheVariants.{P1, R}
 use Rattle.ja_ir.specs.declared.op.Op.TheVariants.{Const, Load, Store, NewArray, ArrStore, ArrLoad, Call}
 use Rattle.ja_ir.specs.Examples.{at}
-use Rattle.ja_facts.specs.Slots.{Slot, Local, OnStack, CallAt, kept_local, kept_stack, loaded, stored as popped}
+use Rattle.ja_facts.specs.Slots.{Slot, Local, OnStack, CallAt, kept_local, kept_stack, loaded, stored as popped, left_local, left_stack}
 use Rattle.ja_facts.specs.Actions.{IsEntry}
 use Rattle.ja_facts.specs.ClassSets.{Reached, InSlot, InBag, CallsLibrary, entry_runs, element_put, element_got, library_fresh}
 use Rattle.ja_facts.specs.Held.{OfBag}
-use Rattle.ja_facts.specs.Sharing.{At as NameAt, keeps_slot, makes_array, writes_element}
+use Rattle.ja_facts.specs.Sharing.{At as NameAt, keeps_slot, makes_array, writes_element, stays_slot, ends_normally}
 use Rattle.ja_facts.specs.Reaching.{ReachAt, ReachWithin, kept, copied as copied_reach, within, library_ends}
 use Rattle.ja_facts.specs.Formulas.{Turns, copied, above, constant, made, loaded as read_loaded, loads_element, answered, written}
-use Rattle.ja_facts.specs.Equations.{Context, At, Stored, nothing, entry_called, begins, stored, stores_reference, IsWarned}
-use Rattle.ja_examples.specs.Solutions.{Classes, Heaps, Reaches, Taints}
+use Rattle.ja_facts.specs.Equations.{Context, At, Stored, entry_called, begins, stored, stores_reference, IsWarned}
+use Rattle.ja_facts.specs.Analyses.{Classes, Reaches, analyses_of}
 use Rattle.ja_examples.specs.Truth.{only, dirty}
 use Rattle.ja_examples.specs.Library.{string, source, sink}
 use Rattle.ja_examples.specs.Elements.{elements, elements_main, elements_entry, element_site}
-use Rattle.ja_examples.proofs.Deriving.{by_class, by_reach, by_taint, Goes, op_at, leads, next, to_library, step, no_read}
+use Rattle.ja_examples.proofs.Deriving.{by_class, by_reach, by_taint, Goes, op_at, leads, next, to_library, step, no_read, Known, stepped, at_library, nothing_begins}
+use Rattle.ja_facts.specs.Example.{nothing}
 
 goes0 : Goes elements 0 0 1 (at 0 (Const P1) (1 ∷ []) 0)
 goes0 = record { found = refl; listed = (0, lit< tt, refl) }
@@ -90,11 +91,11 @@ element_read = by_class elements (Reached 0 9 ∷ InBag 3 1 ∷ []) (InSlot 0 10
 array_reaches : Reaches elements (ReachAt 0 6 (NameAt (Local 0)) (OnStack 0))
 array_reaches =
     by_reach elements (ReachWithin 0 5 (NameAt (Local 0)) (OnStack 0) ∷ []) (ReachAt 0 6 (NameAt (Local 0)) (OnStack 0))
-    (library_ends at_source reached5 sources (leads elements goes5) refl (keeps_slot (kept_local tt)) (kept_stack (lit< tt))) (
-      by_reach elements (ReachAt 0 5 (NameAt (Local 0)) (OnStack 0) ∷ []) (ReachWithin 0 5 (NameAt (Local 0)) (OnStack 0)) (within at_source reached5 sources) (
+    (library_ends (ends_normally (at_library elements at_source reached5 sources) (leads elements goes5)) (stays_slot left_local) (left_stack (lit< tt))) (
+      by_reach elements (ReachAt 0 5 (NameAt (Local 0)) (OnStack 0) ∷ []) (ReachWithin 0 5 (NameAt (Local 0)) (OnStack 0)) (within (at_library elements at_source reached5 sources)) (
         by_reach elements (ReachAt 0 4 (NameAt (Local 0)) (OnStack 0) ∷ []) (ReachAt 0 5 (NameAt (Local 0)) (OnStack 0))
-            (kept (op_at elements goes4) tt reached4 (leads elements goes4) (keeps_slot (kept_local tt)) (kept_stack (lit< tt)))
-            (by_reach elements [] (ReachAt 0 4 (NameAt (Local 0)) (OnStack 0)) (copied_reach (op_at elements goes3) tt reached3 (leads elements goes3) (kept_local tt) loaded (λ e. absurd (cc e))) tt, tt),
+            (kept (stepped elements goes4 reached4) tt (keeps_slot (kept_local tt)) (kept_stack (lit< tt)))
+            (by_reach elements [] (ReachAt 0 4 (NameAt (Local 0)) (OnStack 0)) (copied_reach (stepped elements goes3 reached3) tt (kept_local tt) loaded (λ e. absurd (cc e))) tt, tt),
         tt,
       ),
       tt,
@@ -104,61 +105,61 @@ array_reaches =
 is_entry : IsEntry elements elements_entry elements_main
 is_entry = record { listed = (0, lit< tt, refl); found = refl }
 
-length_slots : (y : Slot) → Turns (Heaps elements) (Reaches elements) 0 0 nothing (Const P1) 0 y false
+length_slots : (y : Slot) → Turns (analyses_of elements) 0 0 nothing (Const P1) 0 y false
 length_slots (Local l) = copied (kept_local tt)
 length_slots (OnStack zero) = constant
 length_slots (OnStack (suc k)) = above (omega arith)
 
-array_slots : (y : Slot) → Turns (Heaps elements) (Reaches elements) 0 1 nothing (NewArray (record { 0 = 3 }) 1) 1 y false
+array_slots : (y : Slot) → Turns (analyses_of elements) 0 1 nothing (NewArray (record { 0 = 3 }) 1) 1 y false
 array_slots (Local l) = copied (kept_local tt)
 array_slots (OnStack zero) = made (makes_array refl)
 array_slots (OnStack (suc k)) = above (omega arith)
 
-store_slots : (y : Slot) → Turns (Heaps elements) (Reaches elements) 0 2 nothing (Store R 0) 1 y false
+store_slots : (y : Slot) → Turns (analyses_of elements) 0 2 nothing (Store R 0) 1 y false
 store_slots (Local zero) = copied (popped {k = 0} refl)
 store_slots (Local (suc l)) = copied (kept_local (λ e. absurd (cc e)))
 store_slots (OnStack k) = above (omega arith)
 
-load_slots : (y : Slot) → Turns (Heaps elements) (Reaches elements) 0 3 nothing (Load R 0) 0 y false
+load_slots : (y : Slot) → Turns (analyses_of elements) 0 3 nothing (Load R 0) 0 y false
 load_slots (Local l) = copied (kept_local tt)
 load_slots (OnStack zero) = copied loaded
 load_slots (OnStack (suc k)) = above (omega arith)
 
-place_slots : (y : Slot) → Turns (Heaps elements) (Reaches elements) 0 4 nothing (Const P1) 1 y false
+place_slots : (y : Slot) → Turns (analyses_of elements) 0 4 nothing (Const P1) 1 y false
 place_slots (Local l) = copied (kept_local tt)
 place_slots (OnStack zero) = copied (kept_stack (lit< tt))
 place_slots (OnStack (suc zero)) = constant
 place_slots (OnStack (suc (suc k))) = above (omega arith)
 
-source_slots : (y : Slot) → Turns (Heaps elements) (Reaches elements) 0 5 nothing (Call source) 2 y ((only (OnStack 2 ∷ [])).slot y)
+source_slots : (y : Slot) → Turns (analyses_of elements) 0 5 nothing (Call source) 2 y ((only (OnStack 2 ∷ [])).slot y)
 source_slots (Local l) = copied (kept_local tt)
 source_slots (OnStack zero) = copied (kept_stack (lit< tt))
 source_slots (OnStack (suc zero)) = copied (kept_stack (lit< tt))
 source_slots (OnStack (suc (suc zero))) = answered 2 refl refl (λ t. refl)
 source_slots (OnStack (suc (suc (suc k)))) = above (omega arith)
 
-put_slots : (y : Slot) → Turns (Heaps elements) (Reaches elements) 0 6 (only (OnStack 2 ∷ [])) (ArrStore R) 3 y ((dirty (Local 0 ∷ [])).slot y)
+put_slots : (y : Slot) → Turns (analyses_of elements) 0 6 (only (OnStack 2 ∷ [])) (ArrStore R) 3 y ((dirty (Local 0 ∷ [])).slot y)
 put_slots (Local zero) = written (writes_element {k = 0} refl) (kept_local tt) array_reaches (λ t. refl)
 put_slots (Local (suc l)) = copied (kept_local tt)
 put_slots (OnStack k) = above (omega arith)
 
-again_slots : (y : Slot) → Turns (Heaps elements) (Reaches elements) 0 7 (dirty (Local 0 ∷ [])) (Load R 0) 0 y ((dirty (Local 0 ∷ OnStack 0 ∷ [])).slot y)
+again_slots : (y : Slot) → Turns (analyses_of elements) 0 7 (dirty (Local 0 ∷ [])) (Load R 0) 0 y ((dirty (Local 0 ∷ OnStack 0 ∷ [])).slot y)
 again_slots (Local l) = copied (kept_local tt)
 again_slots (OnStack zero) = copied loaded
 again_slots (OnStack (suc k)) = above (omega arith)
 
-index_slots : (y : Slot) → Turns (Heaps elements) (Reaches elements) 0 8 (dirty (Local 0 ∷ OnStack 0 ∷ [])) (Const P1) 1 y ((dirty (Local 0 ∷ OnStack 0 ∷ [])).slot y)
+index_slots : (y : Slot) → Turns (analyses_of elements) 0 8 (dirty (Local 0 ∷ OnStack 0 ∷ [])) (Const P1) 1 y ((dirty (Local 0 ∷ OnStack 0 ∷ [])).slot y)
 index_slots (Local l) = copied (kept_local tt)
 index_slots (OnStack zero) = copied (kept_stack (lit< tt))
 index_slots (OnStack (suc zero)) = constant
 index_slots (OnStack (suc (suc k))) = above (omega arith)
 
-get_slots : (y : Slot) → Turns (Heaps elements) (Reaches elements) 0 9 (dirty (Local 0 ∷ OnStack 0 ∷ [])) (ArrLoad R) 2 y ((dirty (Local 0 ∷ OnStack 0 ∷ [])).slot y)
+get_slots : (y : Slot) → Turns (analyses_of elements) 0 9 (dirty (Local 0 ∷ OnStack 0 ∷ [])) (ArrLoad R) 2 y ((dirty (Local 0 ∷ OnStack 0 ∷ [])).slot y)
 get_slots (Local l) = copied (kept_local tt)
 get_slots (OnStack zero) = read_loaded (loads_element {k = 0} refl) (λ t. refl)
 get_slots (OnStack (suc k)) = above (omega arith)
 
-before_put : Taints elements (At 0 6 nothing (only (OnStack 2 ∷ [])))
+before_put : Known elements (At 0 6 nothing (only (OnStack 2 ∷ [])))
 before_put =
     step elements goes5 (record { reached = refl; goes_on = refl; library = sources; slots = source_slots; dirt = refl; exc = refl }) (no_read refl)
     (step elements goes4 (record { reached = refl; goes_on = refl; library = tt; slots = place_slots; dirt = refl; exc = refl }) (no_read refl)
@@ -167,19 +168,19 @@ before_put =
     (step elements goes1 (record { reached = refl; goes_on = refl; library = tt; slots = array_slots; dirt = refl; exc = refl }) (no_read refl)
     (step elements goes0 (record { reached = refl; goes_on = refl; library = tt; slots = length_slots; dirt = refl; exc = refl }) (no_read refl)
     (by_taint elements (Context 0 nothing ∷ []) (At 0 0 nothing nothing) begins
-    (by_taint elements [] (Context 0 nothing) (entry_called elements_entry elements_main [] is_entry (λ z t. absurd (cc t)) refl refl) tt, tt)))))))
+    (by_taint elements [] (Context 0 nothing) (entry_called elements_entry [] (nothing_begins elements is_entry)) tt, tt)))))))
 
-pub in_arrays : Taints elements (Stored (OfBag 3))
+pub in_arrays : Known elements (Stored (OfBag 3))
 in_arrays = by_taint elements (At 0 6 nothing (only (OnStack 2 ∷ [])) ∷ []) (Stored (OfBag 3)) (stored (op_at elements goes6) (stores_reference {k = 0} refl) refl) (before_put, tt)
 
-pub after_put : Taints elements (At 0 7 nothing (dirty (Local 0 ∷ [])))
+pub after_put : Known elements (At 0 7 nothing (dirty (Local 0 ∷ [])))
 after_put = step elements goes6 (record { reached = refl; goes_on = refl; library = tt; slots = put_slots; dirt = refl; exc = refl }) (no_read refl) before_put
 
-before_sink : Taints elements (At 0 10 nothing (dirty (Local 0 ∷ OnStack 0 ∷ [])))
+before_sink : Known elements (At 0 10 nothing (dirty (Local 0 ∷ OnStack 0 ∷ [])))
 before_sink =
     step elements goes9 (record { reached = refl; goes_on = refl; library = tt; slots = get_slots; dirt = refl; exc = refl }) (no_read refl)
     (step elements goes8 (record { reached = refl; goes_on = refl; library = tt; slots = index_slots; dirt = refl; exc = refl }) (no_read refl)
     (step elements goes7 (record { reached = refl; goes_on = refl; library = tt; slots = again_slots; dirt = refl; exc = refl }) (no_read refl) after_put))
 
-pub warned : IsWarned elements (Taints elements) element_site
+pub warned : IsWarned elements (Known elements) element_site
 warned = record { call = sink; under = 0; at = at_sink; a = nothing; b = dirty (Local 0 ∷ OnStack 0 ∷ []); fact = before_sink; k = 0; listed = (0, lit< tt, refl); true_argument = refl }

@@ -9,12 +9,13 @@ use Rattle.ja_facts.specs.Slots.{Slot, Local, OnStack, CallAt, kept_local}
 use Rattle.ja_facts.specs.Actions.{IsEntry, HasObjects}
 use Rattle.ja_facts.specs.ClassSets.{Reached, CallsLibrary, CallsMethod, InThrown, InOut, entry_runs, throws_library, handler_reached, thrown_out, callee_throws}
 use Rattle.ja_facts.specs.Formulas.{Assignment, Turns, copied, above, answered, IsExceptionalEnd, thrown, IsCallThrown, left_kept}
-use Rattle.ja_facts.specs.Equations.{Context, At, Threw, nothing, constructor_called, entry_called, called, begins, caught, callee_caught, leaves, callee_leaves, HandsOver, Calls, IsCaught, IsWarned}
-use Rattle.ja_examples.specs.Solutions.{Classes, Heaps, Reaches, Taints}
+use Rattle.ja_facts.specs.Equations.{Context, At, Threw, constructor_called, entry_called, called, begins, caught, callee_caught, leaves, callee_leaves, HandsOver, Calls, IsCaught, IsWarned}
+use Rattle.ja_facts.specs.Analyses.{Classes, analyses_of}
 use Rattle.ja_examples.specs.Truth.{only, tainted_throw}
 use Rattle.ja_examples.specs.Library.{trouble, show}
 use Rattle.ja_examples.specs.Throwing.{throwing, throwing_entry, throwing_fail, throwing_relay, throwing_run, fail, relay, caught_site, plain_call}
-use Rattle.ja_examples.proofs.Deriving.{by_class, by_taint, Goes, op_at, next, to_library, to_callee, callee, step, no_read}
+use Rattle.ja_examples.proofs.Deriving.{by_class, by_taint, Goes, op_at, next, to_library, to_callee, callee, step, no_read, Known, nothing_begins}
+use Rattle.ja_facts.specs.Example.{nothing}
 
 -- the instructions
 at_trouble : Goes throwing 1 0 1 (at 0 (Call trouble) (1 ∷ []) 0)
@@ -85,80 +86,80 @@ run_entry = record { listed = (0, lit< tt, refl); found = refl }
 run_has_objects : HasObjects throwing throwing_entry
 run_has_objects = record { method = throwing_run; is_entry = run_entry; member = refl }
 
-pub constructed : Taints throwing (Context 0 nothing)
-constructed = by_taint throwing [] (Context 0 nothing) (constructor_called throwing_entry run_has_objects refl) tt
+pub constructed : Known throwing (Context 0 nothing)
+constructed = by_taint throwing [] (Context 0 nothing) (constructor_called throwing_entry run_has_objects refl (record { slots = λ z. refl; dirt = refl; exc = refl })) tt
 
-run_context : Taints throwing (Context 3 nothing)
-run_context = by_taint throwing [] (Context 3 nothing) (entry_called throwing_entry throwing_run [] run_entry (λ z t. absurd (cc t)) refl refl) tt
+run_context : Known throwing (Context 3 nothing)
+run_context = by_taint throwing [] (Context 3 nothing) (entry_called throwing_entry [] (nothing_begins throwing run_entry)) tt
 
-started : (m : ℕ) → Taints throwing (Context m nothing) → Taints throwing (At m 0 nothing nothing)
+started : (m : ℕ) → Known throwing (Context m nothing) → Known throwing (At m 0 nothing nothing)
 started m context = by_taint throwing (Context m nothing ∷ []) (At m 0 nothing nothing) begins (context, tt)
 
-run_starts : Taints throwing (At 3 0 nothing nothing)
+run_starts : Known throwing (At 3 0 nothing nothing)
 run_starts = started 3 run_context
 
 -- calls without arguments
 hands : (method : Method) (name : List ℕ) (m : ℕ) → HandsOver method (plain_call name m) 0 nothing nothing
 hands method name m = record { each = λ k below. absurd (omega (arith, below)); others = λ z other. refl; dirt = refl; exc = refl }
 
-calls_relay : Calls throwing (Classes throwing) 3 0 2 relay 0 nothing nothing
+calls_relay : Calls throwing (analyses_of throwing) 3 0 2 relay 0 nothing nothing
 calls_relay = record { at = at_relay; goes = to_relay; method = throwing_relay; found = refl; hands = hands throwing_relay (codes "relay") 2 }
 
-calls_fail : Calls throwing (Classes throwing) 2 0 1 fail 0 nothing nothing
+calls_fail : Calls throwing (analyses_of throwing) 2 0 1 fail 0 nothing nothing
 calls_fail = record { at = at_fail; goes = to_fail; method = throwing_fail; found = refl; hands = hands throwing_fail (codes "fail") 1 }
 
-relay_starts : Taints throwing (At 2 0 nothing nothing)
+relay_starts : Known throwing (At 2 0 nothing nothing)
 relay_starts = started 2 (by_taint throwing (At 3 0 nothing nothing ∷ []) (Context 2 nothing) (called calls_relay) (run_starts, tt))
 
-fail_starts : Taints throwing (At 1 0 nothing nothing)
+fail_starts : Known throwing (At 1 0 nothing nothing)
 fail_starts = started 1 (by_taint throwing (At 2 0 nothing nothing ∷ []) (Context 1 nothing) (called calls_fail) (relay_starts, tt))
 
 -- the exception is made
-trouble_slots : (y : Slot) → Turns (Heaps throwing) (Reaches throwing) 1 0 nothing (Call trouble) 0 y ((only (OnStack 0 ∷ [])).slot y)
+trouble_slots : (y : Slot) → Turns (analyses_of throwing) 1 0 nothing (Call trouble) 0 y ((only (OnStack 0 ∷ [])).slot y)
 trouble_slots (Local l) = copied (kept_local tt)
 trouble_slots (OnStack zero) = answered 0 refl refl (λ t. refl)
 trouble_slots (OnStack (suc k)) = above (omega arith)
 
-before_throw : Taints throwing (At 1 1 nothing (only (OnStack 0 ∷ [])))
+before_throw : Known throwing (At 1 1 nothing (only (OnStack 0 ∷ [])))
 before_throw = step throwing at_trouble (record { reached = refl; goes_on = refl; library = troubles; slots = trouble_slots; dirt = refl; exc = refl }) (no_read refl) fail_starts
 
 -- only what is thrown is true
 abbrev flying : Assignment
 flying = record { slot = λ z. false; dirt = false; exc = true }
 
-thrown_end1 : IsExceptionalEnd throwing (Classes throwing) (Heaps throwing) 1 1 (only (OnStack 0 ∷ [])) flying
+thrown_end1 : IsExceptionalEnd throwing (analyses_of throwing) 1 1 (only (OnStack 0 ∷ [])) flying
 thrown_end1 = record { instr = at 1 Throw [] 1; found = refl; reached = refl; throws = thrown {k = 0} refl (record { locals = λ l. refl; stack = λ k. refl; dirt = refl; is_exc = refl }) }
 
-thrown_end2 : IsExceptionalEnd throwing (Classes throwing) (Heaps throwing) 1 2 (only (OnStack 0 ∷ [])) flying
+thrown_end2 : IsExceptionalEnd throwing (analyses_of throwing) 1 2 (only (OnStack 0 ∷ [])) flying
 thrown_end2 = record { instr = at 2 Throw [] 1; found = refl; reached = refl; throws = thrown {k = 0} refl (record { locals = λ l. refl; stack = λ k. refl; dirt = refl; is_exc = refl }) }
 
 -- behind a handler it is alone on the stack
 is_caught : IsCaught flying (only (OnStack 0 ∷ []))
 is_caught = record { locals = λ l. refl; first = refl; rest = λ k. refl; dirt = refl; exc = refl }
 
-pub caught_again : Taints throwing (At 1 2 nothing (only (OnStack 0 ∷ [])))
+pub caught_again : Known throwing (At 1 2 nothing (only (OnStack 0 ∷ [])))
 caught_again =
     by_taint throwing (At 1 1 nothing (only (OnStack 0 ∷ [])) ∷ []) (At 1 2 nothing (only (OnStack 0 ∷ [])))
     (caught throws1 (0, lit< tt, refl) thrown_end1 is_caught) (before_throw, tt)
 
-pub threw : Taints throwing (Threw 1 nothing tainted_throw)
+pub threw : Known throwing (Threw 1 nothing tainted_throw)
 threw =
     by_taint throwing (At 1 2 nothing (only (OnStack 0 ∷ [])) ∷ []) (Threw 1 nothing tainted_throw)
     (leaves throws2 (0, lit< tt, refl) thrown_end2) (caught_again, tt)
 
 -- a call ends by it
-call_thrown : (m n : ℕ) (name : List ℕ) (k : ℕ) → IsCallThrown (Heaps throwing) m 0 n nothing tainted_throw (plain_call name k) 0 flying
-call_thrown m n name k = record { locals = λ l. left_kept; stack = λ j. refl; dirt = refl; is_exc = refl }
+call_thrown : (m n : ℕ) → IsCallThrown (analyses_of throwing) m 0 n 0 0 nothing tainted_throw flying
+call_thrown m n = record { locals = λ l. left_kept; stack = λ j. refl; dirt = refl; is_exc = refl }
 
-pub threw_on : Taints throwing (Threw 2 nothing tainted_throw)
+pub threw_on : Known throwing (Threw 2 nothing tainted_throw)
 threw_on =
     by_taint throwing (At 2 0 nothing nothing ∷ Threw 1 nothing tainted_throw ∷ []) (Threw 2 nothing tainted_throw)
-    (callee_leaves calls_fail relay_throws (0, lit< tt, refl) (call_thrown 2 1 (codes "fail") 1)) (relay_starts, (threw, tt))
+    (callee_leaves calls_fail relay_throws (0, lit< tt, refl) (call_thrown 2 1)) (relay_starts, (threw, tt))
 
-pub caught_by_caller : Taints throwing (At 3 2 nothing (only (OnStack 0 ∷ [])))
+pub caught_by_caller : Known throwing (At 3 2 nothing (only (OnStack 0 ∷ [])))
 caught_by_caller =
     by_taint throwing (At 3 0 nothing nothing ∷ Threw 2 nothing tainted_throw ∷ []) (At 3 2 nothing (only (OnStack 0 ∷ [])))
-    (callee_caught calls_relay run_throws (0, lit< tt, refl) (call_thrown 3 2 (codes "relay") 2) is_caught) (run_starts, (threw_on, tt))
+    (callee_caught calls_relay run_throws (0, lit< tt, refl) (call_thrown 3 2) is_caught) (run_starts, (threw_on, tt))
 
-pub warned : IsWarned throwing (Taints throwing) caught_site
+pub warned : IsWarned throwing (Known throwing) caught_site
 warned = record { call = show; under = 0; at = at_show; a = nothing; b = only (OnStack 0 ∷ []); fact = caught_by_caller; k = 0; listed = (0, lit< tt, refl); true_argument = refl }

@@ -4,14 +4,15 @@ use Rattle.ja_base.specs.declared.java_type.Kind.TheVariants.{R}
 use Rattle.ja_ir.specs.declared.op.Op.TheVariants.{New, Load, Store, GetField, PutField, Call}
 use Rattle.ja_ir.specs.declared.method.Instr.{Instr}
 use Rattle.ja_ir.specs.Examples.{at}
-use Rattle.ja_facts.specs.Slots.{Local, OnStack, CallAt, kept_local, kept_stack, loaded, stored}
+use Rattle.ja_facts.specs.Slots.{Local, OnStack, CallAt, kept_local, kept_stack, loaded, stored, left_stack}
 use Rattle.ja_facts.specs.ClassSets.{Reached, CallsLibrary, CallsMethod, entry_runs}
-use Rattle.ja_facts.specs.Sharing.{PairAt, PairWithin, Effect, Arg, Name, At as NameAt, Old, Keeps, keeps_slot, keeps_old, kept, copied, made, makes_object, taken, takes_field, written, writes_field, live_slot, turned, within, library_ends, call_begins_old, written_effect, IsNoCall}
+use Rattle.ja_facts.specs.Sharing.{PairAt, PairWithin, Effect, Arg, Name, At as NameAt, Old, Keeps, keeps_slot, keeps_old, kept, copied, made, makes_object, taken, takes_field, written, writes_field, live_slot, turned, within, library_ends, entered_begins_old, written_effect, IsNoCall, stays_slot, stays_old, ends_normally}
 use Rattle.ja_facts.specs.Formulas.{IsAffected}
-use Rattle.ja_examples.specs.Solutions.{Classes, Heaps}
+use Rattle.ja_facts.specs.Analyses.{Classes, Heaps, analyses_of}
 use Rattle.ja_examples.specs.Library.{source}
 use Rattle.ja_examples.specs.Unlinking.{unlinking, unlinking_f, unlinking_entry, unlink}
-use Rattle.ja_examples.proofs.Deriving.{by_class, by_heap, Goes, op_at, leads, next, to_library, to_callee, callee}
+use Rattle.ja_examples.proofs.Deriving.{by_class, by_heap, Goes, op_at, leads, next, to_library, to_callee, callee, stepped, at_library}
+use Rattle.ja_facts.specs.Crossings.{by_call}
 
 -- main
 pub main0 : Goes unlinking 1 0 1 (at 0 (New (record { 0 = 0 })) (1 ∷ []) 0)
@@ -119,7 +120,7 @@ sources = to_library unlinking at_source refl refl f_reached4
 over : {m i j : ℕ} {instr : Instr} (a b c d : Name) → Goes unlinking m i j instr → IsNoCall instr.op → Classes unlinking (Reached m i)
     → Keeps instr.op instr.height a c → Keeps instr.op instr.height b d → Heaps unlinking (PairAt m i a b) → Heaps unlinking (PairAt m j c d)
 over {m = m} {i = i} {j = j} a b c d g plain r first second x =
-    by_heap unlinking (PairAt m i a b ∷ []) (PairAt m j c d) (kept (op_at unlinking g) plain r (leads unlinking g) first second) (x, tt)
+    by_heap unlinking (PairAt m i a b ∷ []) (PairAt m j c d) (kept (stepped unlinking g r) plain first second) (x, tt)
 
 abbrev l1 : Name
 l1 = NameAt (Local 1)
@@ -129,7 +130,7 @@ s0 = NameAt (OnStack 0)
 
 -- the first node meets itself where f is called
 first_made : Heaps unlinking (PairAt 1 1 s0 s0)
-first_made = by_heap unlinking [] (PairAt 1 1 s0 s0) (made (op_at unlinking main0) main_reached (leads unlinking main0) makes_object) tt
+first_made = by_heap unlinking [] (PairAt 1 1 s0 s0) (made (stepped unlinking main0 main_reached) makes_object) tt
 
 first_stored : Heaps unlinking (PairAt 1 2 l1 l1)
 first_stored = over s0 s0 l1 l1 main1 tt reached1 (keeps_slot (stored refl)) (keeps_slot (stored refl)) first_made
@@ -155,7 +156,7 @@ old = Old (Arg 0)
 parameter_old : Heaps unlinking (PairAt 0 0 (NameAt (Local 0)) old)
 parameter_old =
     by_heap unlinking (PairAt 1 8 s0 s0 ∷ []) (PairAt 0 0 (NameAt (Local 0)) old)
-    (call_begins_old unlinking_f (Arg 0) (Arg 0) at_unlink reached8 calls_f refl (lit< tt) (lit< tt)) (argument_meets, tt)
+    (entered_begins_old unlinking_f (Arg 0) (Arg 0) (by_call reached8 calls_f at_unlink) refl (lit< tt) (lit< tt)) (argument_meets, tt)
 
 pushed_old : Heaps unlinking (PairAt 0 1 s0 old)
 pushed_old = over (NameAt (Local 0)) old s0 old f0 tt f_reached (keeps_slot loaded) keeps_old parameter_old
@@ -163,7 +164,7 @@ pushed_old = over (NameAt (Local 0)) old s0 old f0 tt f_reached (keeps_slot load
 next_old : Heaps unlinking (PairAt 0 2 s0 old)
 next_old =
     by_heap unlinking (PairAt 0 1 s0 old ∷ []) (PairAt 0 2 s0 old)
-    (taken (op_at unlinking f1) f_reached1 (leads unlinking f1) (takes_field {k = 0} refl) keeps_old) (pushed_old, tt)
+    (taken (stepped unlinking f1 f_reached1) (takes_field {k = 0} refl) keeps_old) (pushed_old, tt)
 
 node_old : Heaps unlinking (PairAt 0 4 s0 old)
 node_old =
@@ -173,8 +174,8 @@ node_old =
 written_old : Heaps unlinking (PairAt 0 5 s0 old)
 written_old =
     by_heap unlinking (PairWithin 0 4 s0 old ∷ []) (PairAt 0 5 s0 old)
-    (library_ends at_source f_reached4 sources (leads unlinking f4) refl (keeps_slot (kept_stack (lit< tt))) keeps_old)
-    (by_heap unlinking (PairAt 0 4 s0 old ∷ []) (PairWithin 0 4 s0 old) (within at_source f_reached4 sources) (node_old, tt), tt)
+    (library_ends (ends_normally (at_library unlinking at_source f_reached4 sources) (leads unlinking f4)) (stays_slot (left_stack (lit< tt))) stays_old)
+    (by_heap unlinking (PairAt 0 4 s0 old ∷ []) (PairWithin 0 4 s0 old) (within (at_library unlinking at_source f_reached4 sources)) (node_old, tt), tt)
 
 pub changes_argument : Heaps unlinking (Effect 0 (Arg 0))
 changes_argument =
@@ -184,17 +185,17 @@ changes_argument =
 first_under : Heaps unlinking (PairAt 1 6 l1 s0)
 first_under =
     over l1 s0 l1 s0 main5 tt reached5 (keeps_slot (kept_local tt)) (keeps_slot (kept_stack (lit< tt)))
-    (by_heap unlinking [] (PairAt 1 5 l1 s0) (copied (op_at unlinking main4) tt reached4 (leads unlinking main4) (kept_local tt) loaded (λ e. absurd (cc e))) tt)
+    (by_heap unlinking [] (PairAt 1 5 l1 s0) (copied (stepped unlinking main4 reached4) tt (kept_local tt) loaded (λ e. absurd (cc e))) tt)
 
 second_value : Heaps unlinking (PairAt 1 6 (NameAt (OnStack 1)) (NameAt (Local 2)))
 second_value =
     by_heap unlinking [] (PairAt 1 6 (NameAt (OnStack 1)) (NameAt (Local 2)))
-    (copied (op_at unlinking main5) tt reached5 (leads unlinking main5) loaded (kept_local tt) (λ e. absurd (cc e))) tt
+    (copied (stepped unlinking main5 reached5) tt loaded (kept_local tt) (λ e. absurd (cc e))) tt
 
 linked : Heaps unlinking (PairAt 1 7 l1 (NameAt (Local 2)))
 linked =
     by_heap unlinking (PairAt 1 6 l1 s0 ∷ PairAt 1 6 (NameAt (OnStack 1)) (NameAt (Local 2)) ∷ []) (PairAt 1 7 l1 (NameAt (Local 2)))
-    (written (op_at unlinking main6) reached6 (leads unlinking main6) (writes_field {k = 0} refl) live_slot (keeps_slot (kept_local tt)) (keeps_slot (kept_local tt)))
+    (written (stepped unlinking main6 reached6) (writes_field {k = 0} refl) live_slot (keeps_slot (kept_local tt)) (keeps_slot (kept_local tt)))
     (first_under, (second_value, tt))
 
 second_meets : Heaps unlinking (PairAt 1 8 (NameAt (Local 2)) s0)
@@ -202,5 +203,5 @@ second_meets =
     over (NameAt (Local 2)) l1 (NameAt (Local 2)) s0 main7 tt reached7 (keeps_slot (kept_local tt)) (keeps_slot loaded)
     (by_heap unlinking (PairAt 1 7 l1 (NameAt (Local 2)) ∷ []) (PairAt 1 7 (NameAt (Local 2)) l1) turned (linked, tt))
 
-pub affected : IsAffected (Heaps unlinking) 1 8 0 unlink 0 (Local 2)
+pub affected : IsAffected (analyses_of unlinking) 1 8 0 1 0 (Local 2)
 affected = record { root = Arg 0; is_root = lit< tt; effect = changes_argument; pair = second_meets }

@@ -1,4 +1,3 @@
-pub mod Solutions
 pub mod Truth
 pub mod Library
 pub mod Passing
@@ -7,6 +6,8 @@ pub mod Building
 pub mod Unlinking
 pub mod Parting
 pub mod Entering
-pub mod Runs
 pub mod Choosing
 pub mod Elements
+pub mod Initialising
+pub mod Labelling
+pub mod Runs

@@ -1,6 +1,8 @@
 -- Calls of the library that the examples make.
-use Rattle.std.specs.Prelude.{[], ◌∷◌, Some, None, codes}
+use Rattle.std.specs.Prelude.{ℕ, true, List, [], ◌∷◌, Some, None, codes}
 use Rattle.ja_base.specs.declared.java_type.JavaType.{JavaType}
+use Rattle.ja_base.specs.declared.java_type.Desc.{Desc}
+use Rattle.ja_ir.specs.declared.method.Method.{Method}
 use Rattle.ja_ir.specs.declared.class.MethodAt.TheVariants.{Library}
 use Rattle.ja_ir.specs.declared.row.RowFlow.TheVariants.{Always, Never, Args}
 use Rattle.ja_ir.specs.declared.row.RowEffect.TheVariants.{Quiet, Absorb}
@@ -17,6 +19,18 @@ string = named (codes "java/lang/String")
 abbrev pub builder : JavaType
 builder = named (codes "java/lang/StringBuilder")
 
+-- the method with this descriptor, which spells these types
+abbrev pub typed : (desc : List ℕ) → Desc → Method → Method
+typed desc types method = record method { desc = desc; types = types }
+
+-- one parameter of a reference type, and no result
+abbrev pub takes : JavaType → Desc
+takes type = record { params = type ∷ []; result = None; words = 1 }
+
+-- no parameters, and a text as the result
+abbrev pub gives_string : Desc
+gives_string = record { params = []; result = Some string; words = 0 }
+
 -- a source: it answers a new tainted text
 abbrev pub source : CallOp
 source = record {
@@ -26,7 +40,7 @@ source = record {
   desc = codes "()Ljava/lang/String;";
   params = [];
   result = Some string;
-  row = record { flow = Always; effect = Quiet; result = Fresh; sinks = [] };
+  row = record { flow = Always; effect = Quiet; result = Fresh; sinks = []; marks = true ∷ []; category = 0 };
   found = Some Library;
 }
 
@@ -39,7 +53,7 @@ sink = record {
   desc = codes "(Ljava/lang/String;)V";
   params = string ∷ [];
   result = None;
-  row = record { flow = Never; effect = Quiet; result = Fresh; sinks = 0 ∷ [] };
+  row = record { flow = Never; effect = Quiet; result = Fresh; sinks = 0 ∷ []; marks = true ∷ []; category = 0 };
   found = Some Library;
 }
 
@@ -52,7 +66,7 @@ trouble = record {
   desc = codes "()Ljava/lang/RuntimeException;";
   params = [];
   result = Some (named (codes "java/lang/RuntimeException"));
-  row = record { flow = Always; effect = Quiet; result = Fresh; sinks = [] };
+  row = record { flow = Always; effect = Quiet; result = Fresh; sinks = []; marks = true ∷ []; category = 0 };
   found = Some Library;
 }
 
@@ -65,7 +79,7 @@ show = record {
   desc = codes "(Ljava/lang/RuntimeException;)V";
   params = named (codes "java/lang/RuntimeException") ∷ [];
   result = None;
-  row = record { flow = Never; effect = Quiet; result = Fresh; sinks = 0 ∷ [] };
+  row = record { flow = Never; effect = Quiet; result = Fresh; sinks = 0 ∷ []; marks = true ∷ []; category = 0 };
   found = Some Library;
 }
 
@@ -78,7 +92,7 @@ append = record {
   desc = codes "(Ljava/lang/String;)Ljava/lang/StringBuilder;";
   params = string ∷ [];
   result = Some builder;
-  row = record { flow = Args; effect = Absorb; result = Argument; sinks = [] };
+  row = record { flow = Args; effect = Absorb; result = Argument; sinks = []; marks = true ∷ []; category = 0 };
   found = None;
 }
 
@@ -91,6 +105,6 @@ to_text = record {
   desc = codes "()Ljava/lang/String;";
   params = [];
   result = Some string;
-  row = record { flow = Args; effect = Quiet; result = Fresh; sinks = [] };
+  row = record { flow = Args; effect = Quiet; result = Fresh; sinks = []; marks = true ∷ []; category = 0 };
   found = None;
 }

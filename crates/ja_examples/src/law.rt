@@ -1,43 +1,46 @@
 ghost use Rattle.std.specs.Prelude.{[], ◌∷◌, ◌≡◌, ◌↔◌, ℕ, true, false};
 ghost use Rattle.ja_facts.specs.Slots.{Local, OnStack};
-ghost use Rattle.ja_facts.specs.ClassSets.{CallsMethod, InSlot};
+ghost use Rattle.ja_facts.specs.ClassSets.{CallsMethod, InSlot, Reached};
 ghost use Rattle.ja_facts.specs.Held.{Cell, OfBag, OfField, FieldHolds};
-ghost use Rattle.ja_facts.specs.Sharing.{PairAt, Effect, Root, Arg, At as NameAt};
+ghost use Rattle.ja_facts.specs.Sharing.{PairAt, Effect, Root, Arg, Fields, At as NameAt};
 ghost use Rattle.ja_facts.specs.Reaching.{ReachAt};
-ghost use Rattle.ja_facts.specs.Formulas.{IsAffected};
-ghost use Rattle.ja_facts.specs.Equations.{At, Context, Normal, Threw, Stored, IsWarned, nothing};
-ghost use Rattle.ja_facts.specs.Verdict.{AreVerdicts};
-ghost use Rattle.ja_examples.specs.Solutions.{Classes, Heaps, Helds, Reaches, Taints};
+ghost use Rattle.ja_facts.specs.Formulas.{Assignment, IsAffected, Summary};
+ghost use Rattle.ja_facts.specs.Equations.{At, Context, Normal, Threw, Stored, IsWarned, Taints};
+ghost use Rattle.ja_facts.specs.Example.{nothing, clean_return};
+ghost use Rattle.ja_facts.specs.Verdict.{AreVerdicts, report_text};
+ghost use Rattle.ja_facts.specs.Analyses.{Classes, Heaps, Helds, Reaches, analyses_of};
 ghost use Rattle.ja_examples.specs.Truth.{only, dirty, stored_taint, tainted_result, tainted_throw};
 ghost use Rattle.ja_examples.specs.Passing.{passing, passed_site};
 ghost use Rattle.ja_examples.specs.Throwing.{throwing, caught_site};
 ghost use Rattle.ja_examples.specs.Building.{building, built_site};
-ghost use Rattle.ja_examples.specs.Unlinking.{unlinking, unlink, unlinked_site};
+ghost use Rattle.ja_examples.specs.Unlinking.{unlinking, unlinked_site};
 ghost use Rattle.ja_examples.specs.Parting.{parting};
 ghost use Rattle.ja_examples.specs.Entering.{entering, entered_site};
 ghost use Rattle.ja_examples.specs.Choosing.{choosing};
 ghost use Rattle.ja_examples.specs.Elements.{elements, element_site};
+ghost use Rattle.ja_examples.specs.Initialising.{initialising, resting, failing};
+ghost use Rattle.ja_examples.specs.Labelling.{labelling, labelling_report};
 ghost use Rattle.ja_examples.specs.Runs.{ProgramsRun};
 
 /// A call returns its tainted argument: the method is called with its parameter true, it returns
 /// something tainted, that is on the stack after the call, and the sink call is warned.
 pub fn law_passing()
-    ensures called { Taints passing (Context 0 (only (Local 0 ∷ []))) }
-    ensures returned { Taints passing (Normal 0 (only (Local 0 ∷ [])) tainted_result) }
-    ensures goes_on { Taints passing (At 1 2 nothing (only (OnStack 0 ∷ []))) }
-    ensures warned { IsWarned passing (Taints passing) passed_site }
+    ensures called { Taints passing 0 (Context 0 (only (Local 0 ∷ []))) }
+    ensures returned { Taints passing 0 (Normal 0 (only (Local 0 ∷ [])) tainted_result) }
+    ensures goes_on { Taints passing 0 (At 1 2 nothing (only (OnStack 0 ∷ []))) }
+    ensures warned { IsWarned passing (Taints passing 0) passed_site }
 {}
 
 /// A tainted exception is caught where it is thrown, is thrown again, leaves a caller that catches
 /// nothing, and is caught in the caller of that one: behind each handler it is alone on the stack. The
 /// environment runs the constructor too.
 pub fn law_throwing()
-    ensures constructed { Taints throwing (Context 0 nothing) }
-    ensures caught { Taints throwing (At 1 2 nothing (only (OnStack 0 ∷ []))) }
-    ensures threw { Taints throwing (Threw 1 nothing tainted_throw) }
-    ensures threw_on { Taints throwing (Threw 2 nothing tainted_throw) }
-    ensures caught_by_caller { Taints throwing (At 3 2 nothing (only (OnStack 0 ∷ []))) }
-    ensures warned { IsWarned throwing (Taints throwing) caught_site }
+    ensures constructed { Taints throwing 0 (Context 0 nothing) }
+    ensures caught { Taints throwing 0 (At 1 2 nothing (only (OnStack 0 ∷ []))) }
+    ensures threw { Taints throwing 0 (Threw 1 nothing tainted_throw) }
+    ensures threw_on { Taints throwing 0 (Threw 2 nothing tainted_throw) }
+    ensures caught_by_caller { Taints throwing 0 (At 3 2 nothing (only (OnStack 0 ∷ []))) }
+    ensures warned { IsWarned throwing (Taints throwing 0) caught_site }
 {}
 
 /// A tainted text that a builder takes in is stored into the bags of library objects. These, and nothing
@@ -46,11 +49,11 @@ pub fn law_throwing()
 /// call is warned.
 pub fn law_building()
     ensures met { Heaps building (PairAt 0 9 (NameAt (Local 0)) (NameAt (OnStack 0))) }
-    ensures stored { Taints building (Stored (OfBag 2)) }
+    ensures stored { Taints building 0 (Stored (OfBag 2)) }
     ensures held { (c : Cell) → Helds building (FieldHolds 0 c) ↔ (c ≡ OfBag 2) }
-    ensures appended { Taints building (At 0 10 nothing (dirty (Local 0 ∷ Local 1 ∷ OnStack 0 ∷ []))) }
-    ensures read { Taints building (At 0 13 nothing (dirty (Local 0 ∷ Local 1 ∷ OnStack 0 ∷ []))) }
-    ensures warned { IsWarned building (Taints building) built_site }
+    ensures appended { Taints building 0 (At 0 10 nothing (dirty (Local 0 ∷ Local 1 ∷ OnStack 0 ∷ []))) }
+    ensures read { Taints building 0 (At 0 13 nothing (dirty (Local 0 ∷ Local 1 ∷ OnStack 0 ∷ []))) }
+    ensures warned { IsWarned building (Taints building 0) built_site }
 {}
 
 /// A method that writes to the node after its argument, and unlinks that node, changes what its argument
@@ -60,19 +63,19 @@ pub fn law_building()
 /// after the call, and the sink call that gets its field is warned.
 pub fn law_unlinking()
     ensures effects { (r : Root) → Heaps unlinking (Effect 0 r) ↔ (r ≡ Arg 0) }
-    ensures affected { IsAffected (Heaps unlinking) 1 8 0 unlink 0 (Local 2) }
-    ensures not_affected { IsAffected (Heaps unlinking) 1 8 0 unlink 0 (Local 0) → ⊥ }
+    ensures affected { IsAffected (analyses_of unlinking) 1 8 0 1 0 (Local 2) }
+    ensures not_affected { IsAffected (analyses_of unlinking) 1 8 0 1 0 (Local 0) → ⊥ }
     ensures reaches { Reaches unlinking (ReachAt 0 5 (NameAt (Local 0)) (OnStack 0)) }
-    ensures written { Taints unlinking (At 0 6 nothing (dirty (Local 0 ∷ Local 1 ∷ []))) }
-    ensures returned { Taints unlinking (Normal 0 nothing stored_taint) }
-    ensures goes_on { Taints unlinking (At 1 9 nothing (dirty (Local 2 ∷ []))) }
-    ensures warned { IsWarned unlinking (Taints unlinking) unlinked_site }
+    ensures written { Taints unlinking 0 (At 0 6 nothing (dirty (Local 0 ∷ Local 1 ∷ []))) }
+    ensures returned { Taints unlinking 0 (Normal 0 nothing stored_taint) }
+    ensures goes_on { Taints unlinking 0 (At 1 9 nothing (dirty (Local 2 ∷ []))) }
+    ensures warned { IsWarned unlinking (Taints unlinking 0) unlinked_site }
 {}
 
 /// What one field of an object has is not in another: nothing tainted is stored into the second field,
 /// what it refers to holds nothing, and the sink call that gets it is clean.
 pub fn law_parting()
-    ensures stored { Taints parting (Stored (OfField 1)) → ⊥ }
+    ensures stored { Taints parting 0 (Stored (OfField 1)) → ⊥ }
     ensures held { (c : Cell) → Helds parting (FieldHolds 1 c) → ⊥ }
     ensures clean { AreVerdicts parting (Taints parting) (false ∷ []) }
 {}
@@ -80,10 +83,10 @@ pub fn law_parting()
 /// What an earlier entry stored into a builder makes the parameter of a later one true, and the sink
 /// call there is warned; the parameter of an entry whose position is marked is true without it.
 pub fn law_entering()
-    ensures stored { Taints entering (Stored (OfBag 2)) }
-    ensures called { Taints entering (Context 1 (only (Local 0 ∷ []))) }
-    ensures marked { Taints entering (Context 2 (only (Local 0 ∷ []))) }
-    ensures warned { IsWarned entering (Taints entering) entered_site }
+    ensures stored { Taints entering 0 (Stored (OfBag 2)) }
+    ensures called { Taints entering 0 (Context 1 (only (Local 0 ∷ []))) }
+    ensures marked { Taints entering 0 (Context 2 (only (Local 0 ∷ []))) }
+    ensures warned { IsWarned entering (Taints entering 0) entered_site }
 {}
 
 /// A virtual call goes to what its receivers select: the first to the methods of both subclasses, the
@@ -100,9 +103,43 @@ pub fn law_choosing()
 /// read pushes. The array is true after the store, and the sink call that gets an element is warned.
 pub fn law_elements()
     ensures read { Classes elements (InSlot 0 10 (OnStack 0) 1) }
-    ensures stored { Taints elements (Stored (OfBag 3)) }
-    ensures written { Taints elements (At 0 7 nothing (dirty (Local 0 ∷ []))) }
-    ensures warned { IsWarned elements (Taints elements) element_site }
+    ensures stored { Taints elements 0 (Stored (OfBag 3)) }
+    ensures written { Taints elements 0 (At 0 7 nothing (dirty (Local 0 ∷ []))) }
+    ensures warned { IsWarned elements (Taints elements 0) element_site }
+{}
+
+/// A class initialiser runs before an instruction that names its class: it is reached, called with
+/// nothing true, and returns; what it stored is read, and the sink call is warned. Its effect on the
+/// static fields is one of the method that it comes into.
+pub fn law_initialising()
+    ensures reached { Classes initialising (Reached 1 0) }
+    ensures effect { Heaps initialising (Effect 0 Fields) }
+    ensures called { Taints initialising 0 (Context 1 nothing) }
+    ensures returned { Taints initialising 0 (Normal 1 nothing clean_return) }
+    ensures stored { Taints initialising 0 (Stored (OfField 0)) }
+    ensures verdicts { AreVerdicts initialising (Taints initialising) (true ∷ []) }
+{}
+
+/// The class initialiser of a class that nothing names is not reached, and the sink call that reads what
+/// it would store is clean.
+pub fn law_resting()
+    ensures not_reached { (i : ℕ) → Classes resting (Reached 1 i) → ⊥ }
+    ensures verdicts { AreVerdicts resting (Taints resting) (false ∷ []) }
+{}
+
+/// A class initialiser that throws does not return, and the sink call of the method that names its class
+/// is clean.
+pub fn law_failing()
+    ensures threw { Taints failing 0 (Threw 1 nothing clean_return) }
+    ensures returned { (a : Assignment) (s : Summary) → Taints failing 0 (Normal 1 a s) → ⊥ }
+    ensures verdicts { AreVerdicts failing (Taints failing) (false ∷ []) }
+{}
+
+/// A text that is marked for pages alone is clean at a sink for SQL and warned at one for pages, and the
+/// report says so.
+pub fn law_labelling()
+    ensures verdicts { AreVerdicts labelling (Taints labelling) (false ∷ true ∷ []) }
+    ensures report { report_text labelling (false ∷ true ∷ []) ≡ labelling_report }
 {}
 
 /// The machine has runs of these programs in which the sink call is met: with something tainted where

@@ -8,13 +8,14 @@ use Rattle.ja_ir.specs.declared.program.Parts.{Parts}
 use Rattle.ja_ir.specs.declared.method.Method.{Method}
 use Rattle.ja_ir.specs.declared.method.Instr.{Instr}
 use Rattle.ja_sets.specs.Sets.{Has, HasPair}
-use Rattle.ja_facts.specs.Slots.{param_count}
+use Rattle.ja_ir.specs.Params.{param_count}
+use Rattle.ja_facts.specs.Slots.{argument}
 use Rattle.ja_facts.specs.ClassTables.{no_members, token_count, empty_classes, slots_before, throws_before}
 use Rattle.ja_facts.specs.FactTables.{empty_graph, calls_of, no_targets, empty_held, empty_pairs, empty_effects, empty_reach, cell_count, no_pairs, name_count, live_count}
 use Rattle.ja_facts.specs.declared.targets.Targets.{Targets}
-use Rattle.ja_facts.specs.ClassSets.{Fact as ClassFact, Reached, InEnv, InSlot, InThrown, InParam, InResult, InOut, InField, InBag, CallsMethod, CallsAbstract, CallsLibrary, InSpan, Takes, argument}
-use Rattle.ja_facts.specs.Told.{TellsClass, TellsHeld, TellsHeap, TellsReach, PairHas, WithinHas, within_before, within_absorbed, within_turned, cell_number}
-use Rattle.ja_facts.specs.Held.{Fact as HeldFact, Spans, TokenHolds, FieldHolds}
+use Rattle.ja_facts.specs.ClassSets.{Fact as ClassFact, Reached, InEnv, InSlot, InThrown, InParam, InResult, InOut, InField, InBag, CallsMethod, CallsAbstract, CallsLibrary, Spans, Takes}
+use Rattle.ja_facts.specs.Told.{LeadsBy, leads_itself, leads_by_field, leads_by_bag, TellsSets, TellsGraph, TellsHeld, TellsHeap, TellsReach, PairHas, WithinHas, within_before, within_absorbed, within_turned, cell_number}
+use Rattle.ja_facts.specs.Held.{Fact as HeldFact, TokenHolds, FieldHolds}
 use Rattle.ja_facts.specs.Sharing.{Fact as HeapFact, PairAt, PairWithin, Effect, Name, At}
 use Rattle.ja_facts.specs.Reaching.{Fact as ReachFact, ReachAt, ReachWithin}
 
@@ -54,22 +55,44 @@ module _ (p : Parts) where
       let below : listed.0 < length {A = ℕ} [] = subst (λ (ms : List ℕ). listed.0 < length ms) empty listed.1 in
       omega arith
 
-  pub no-class_fact : (f : ClassFact) → TellsClass p (empty_classes p) (empty_graph p) f → ⊥
-  no-class_fact (Reached m i) h =
+  -- no bag and no field has a token, so that each token leads to itself alone
+  pub leads-alone : {t u : ℕ} → LeadsBy p (empty_classes p) t u → u ≡ t
+  leads-alone leads_itself = refl
+  leads-alone (leads_by_field {v = v} f has member l) = absurd (same-member (token_count p) v _ (get_or-copies (length p.fields) f (no_members (token_count p))) member)
+  leads-alone (leads_by_bag {u = u} {v = v} takes member l) = absurd (same-member (token_count p) v _ (get_or-copies (token_count p) u (no_members (token_count p))) member)
+
+  pub only-spans : (f : ClassFact) → TellsSets p (empty_classes p) f → (t : ℕ) × (f ≡ Spans t t)
+  only-spans (Reached m i) h = absurd h
+  only-spans (InEnv t) h = absurd h
+  only-spans (InSlot m i z t) h = absurd (same-member (token_count p) t _ (table-copies (λ (method : Method). method.code) (λ (method : Method) (instr : Instr). slots_before method instr) (no_members (token_count p)) p.methods m i h.n) h.member)
+  only-spans (InThrown m i t) h = absurd (same-member (token_count p) t _ (table-copies (λ (method : Method). method.code) (λ (method : Method) (instr : Instr). throws_before instr) (no_members (token_count p)) p.methods m i 0) h)
+  only-spans (InParam m k t) h = absurd (same-member (token_count p) t _ (row-copies param_count (no_members (token_count p)) p.methods m k) h)
+  only-spans (InResult m t) h = absurd (same-member (token_count p) t _ (get_or-copies (length p.methods) m (no_members (token_count p))) h)
+  only-spans (InOut m t) h = absurd (same-member (token_count p) t _ (get_or-copies (length p.methods) m (no_members (token_count p))) h)
+  only-spans (InField f t) h = absurd (same-member (token_count p) t _ (get_or-copies (length p.fields) f (no_members (token_count p))) h)
+  only-spans (InBag b t) h = absurd (same-member (token_count p) t _ (get_or-copies (token_count p) b (no_members (token_count p))) h)
+  only-spans (CallsMethod m i n) h = absurd h
+  only-spans (CallsAbstract m i n) h = absurd h
+  only-spans (CallsLibrary m i) h = absurd h
+  only-spans (Spans t u) h = (t, ap (Spans t) (leads-alone h))
+  only-spans (Takes m i b) h = absurd h
+
+  pub no-graph_fact : (f : ClassFact) → TellsGraph p (empty_graph p) f → ⊥
+  no-graph_fact (Reached m i) h =
       let e : get_or (get_or (empty_graph p).reached m []) i false ≡ false = row-copies (λ (method : Method). length method.code) false p.methods m i in absurd (cc (h, e))
-  no-class_fact (InEnv t) h = h
-  no-class_fact (InSlot m i z t) h = same-member (token_count p) t _ (table-copies (λ (method : Method). method.code) (λ (method : Method) (instr : Instr). slots_before method instr) (no_members (token_count p)) p.methods m i h.n) h.member
-  no-class_fact (InThrown m i t) h = same-member (token_count p) t _ (table-copies (λ (method : Method). method.code) (λ (method : Method) (instr : Instr). throws_before instr) (no_members (token_count p)) p.methods m i 0) h
-  no-class_fact (InParam m k t) h = same-member (token_count p) t _ (row-copies param_count (no_members (token_count p)) p.methods m k) h
-  no-class_fact (InResult m t) h = same-member (token_count p) t _ (get_or-copies (length p.methods) m (no_members (token_count p))) h
-  no-class_fact (InOut m t) h = same-member (token_count p) t _ (get_or-copies (length p.methods) m (no_members (token_count p))) h
-  no-class_fact (InField f t) h = same-member (token_count p) t _ (get_or-copies (length p.fields) f (no_members (token_count p))) h
-  no-class_fact (InBag b t) h = same-member (token_count p) t _ (get_or-copies (token_count p) b (no_members (token_count p))) h
-  no-class_fact (CallsMethod m i n) h = no-target m i n h.listed
-  no-class_fact (CallsAbstract m i n) h = no-target m i n h.listed
-  no-class_fact (CallsLibrary m i) h = let e : (get_or (get_or (get_or (empty_graph p).targets m []) i []) 0 no_targets).library ≡ false = ap (λ (goes : Targets). goes.library) (nowhere m i) in absurd (cc (h, e))
-  no-class_fact (InSpan m i k t) h = h
-  no-class_fact (Takes m i b) h = same-member (token_count p) b _ (table-copies (λ (method : Method). method.code) (λ (method : Method) (instr : Instr). calls_of instr.op) (no_members (token_count p)) p.methods m i 0) h
+  no-graph_fact (InEnv t) h = h
+  no-graph_fact (InSlot m i z t) h = h
+  no-graph_fact (InThrown m i t) h = h
+  no-graph_fact (InParam m k t) h = h
+  no-graph_fact (InResult m t) h = h
+  no-graph_fact (InOut m t) h = h
+  no-graph_fact (InField f t) h = h
+  no-graph_fact (InBag b t) h = h
+  no-graph_fact (CallsMethod m i n) h = no-target m i n h.listed
+  no-graph_fact (CallsAbstract m i n) h = no-target m i n h.listed
+  no-graph_fact (CallsLibrary m i) h = let e : (get_or (get_or (get_or (empty_graph p).targets m []) i []) 0 no_targets).library ≡ false = ap (λ (goes : Targets). goes.library) (nowhere m i) in absurd (cc (h, e))
+  no-graph_fact (Spans t u) h = h
+  no-graph_fact (Takes m i b) h = same-member (token_count p) b _ (table-copies (λ (method : Method). method.code) (λ (method : Method) (instr : Instr). calls_of instr.op) (no_members (token_count p)) p.methods m i 0) h
 
 -- ---- held cells, pairs, effects and reachability
 
@@ -101,7 +124,6 @@ no-listed_pair bound (method ∷ methods) zero i a b has =
     ]
 
 pub no-held_fact : (p : Parts) (f : HeldFact) → TellsHeld p (empty_held p) f → ⊥
-no-held_fact p (Spans t u) h = h
 no-held_fact p (TokenHolds t c) h = no-member_or (token_count p) (cell_count p) t (cell_number p c) h.1
 no-held_fact p (FieldHolds f c) h = no-member_or (length p.fields) (cell_count p) f (cell_number p c) h.1
 
@@ -110,9 +132,9 @@ module _ (p : Parts) where
   no-pair_fact m i a b h = no-listed_pair name_count p.methods m i h.first h.second h.member
 
   no-within : (C : ClassFact → Type 0) (m i : ℕ) (a b : Name) → WithinHas p C (empty_pairs p) m i a b → ⊥
-  no-within C m i a b (within_before at r l h) = no-pair_fact m i a b h
-  no-within C m i a b (within_absorbed {under = under} x v at r l s w live h g) = no-pair_fact m i a (At (argument under x)) h
-  no-within C m i a b (within_turned {under = under} x v at r l s w live h g) = no-pair_fact m i b (At (argument under x)) h
+  no-within C m i a b (within_before l h) = no-pair_fact m i a b h
+  no-within C m i a b (within_absorbed {under = under} x v l s w live h g) = no-pair_fact m i a (At (argument under x)) h
+  no-within C m i a b (within_turned {under = under} x v l s w live h g) = no-pair_fact m i b (At (argument under x)) h
 
   pub no-heap_fact : (C : ClassFact → Type 0) (f : HeapFact) → TellsHeap p C (empty_pairs p) (empty_effects p) f → ⊥
   no-heap_fact C (PairAt m i a b) h = no-pair_fact m i a b h

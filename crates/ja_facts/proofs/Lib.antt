@@ -3,6 +3,8 @@ pub mod Counting
 pub mod ExampleFacts
 pub mod Loads
 pub mod Empty
+pub mod Membership
+pub mod Reasons
 pub mod MoreMarks
 pub mod Joint
 pub mod Kept

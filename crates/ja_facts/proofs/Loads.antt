@@ -5,8 +5,8 @@ use Rattle.ja_ir.specs.declared.op.Op.{Op}
 use Rattle.ja_ir.specs.declared.op.Op.TheVariants.{Load}
 use Rattle.ja_ir.specs.Operations.{height_after}
 use Rattle.ja_facts.specs.Slots.{Slot, Local, OnStack, Copies, kept_local, kept_stack, loaded, stored, shuffled, checked}
-use Rattle.ja_facts.specs.Sharing.{Fact as HeapFact, Makes, makes_text, makes_object, makes_array, Writes, writes_field, writes_element}
-use Rattle.ja_facts.specs.Reaching.{Fact as ReachFact}
+use Rattle.ja_facts.specs.Sharing.{Makes, makes_text, makes_object, makes_array, Writes, writes_field, writes_element}
+use Rattle.ja_facts.specs.Analyses.{Analyses}
 use Rattle.ja_facts.specs.Formulas.{Assignment, Turns, Loads, loads_field, loads_element, copied, above, constant, made, measured, tested, mixed, loaded as read_loaded, static_loaded, written, absorbed, answered}
 
 -- what a load pushes is a copy of its local alone
@@ -32,8 +32,8 @@ no-write : {op : Op} {height : ℕ} {x v : Slot} (kind : Kind) (l : ℕ) → op 
 no-write kind l e (writes_field h) = absurd (cc e)
 no-write kind l e (writes_element h) = absurd (cc e)
 
-module _ (H : HeapFact → Type 0) (R : ReachFact → Type 0) (m i : ℕ) (b : Assignment) where
-  pub load-turns : {op : Op} {height : ℕ} {y : Slot} {t : Bool} (kind : Kind) (l : ℕ) → op ≡ Load kind l → y ≡ OnStack height → Turns H R m i b op height y t → t ≡ b.slot (Local l)
+module _ (A : Analyses) (m i : ℕ) (b : Assignment) where
+  pub load-turns : {op : Op} {height : ℕ} {y : Slot} {t : Bool} (kind : Kind) (l : ℕ) → op ≡ Load kind l → y ≡ OnStack height → Turns A m i b op height y t → t ≡ b.slot (Local l)
   load-turns kind l e f (copied c) = ap b.slot (load-copies kind l e f c)
   load-turns {height = height} kind l e f (above {k = k} h) =
       absurd (let same : k ≡ height = cc f in let after : height_after (Load kind l) height ≤ k = subst (λ (o : Op). height_after o height ≤ k) e h in omega (arith, after, same))

@@ -1,5 +1,5 @@
 -- With more marks no fact is lost.
-use Rattle.std.proofs.Common.{◌≡◌, ℕ, List, [], ◌∷◌, inl, inr, refl, ap, sym, subst, ◌∙◌, if◌then◌else◌}
+use Rattle.std.proofs.Common.{◌≡◌, ℕ, true, List, [], ◌∷◌, inl, inr, refl, ap, sym, subst, ◌∙◌, if◌then◌else◌}
 use Rattle.std.specs.Prelude.{Contains, slice_get}
 use Rattle.ja_base.specs.declared.id.ClassId.{ClassId}
 use Rattle.ja_base.specs.declared.id.MethodId.{MethodId}
@@ -13,17 +13,18 @@ use Rattle.ja_ir.specs.declared.op.CallOp.{CallOp}
 use Rattle.ja_ir.specs.declared.op.Op.{Op}
 use Rattle.ja_ir.specs.Lookup.{OpAt, Leads}
 use Rattle.ja_ir.specs.Handlers.{Place, Inside, Outside, dest, dest_at, dest_among, in_range, handlers_of}
-use Rattle.ja_facts.specs.Least.{Least}
+use Rattle.ja_ir.specs.Params.{param_count}
+use Rattle.ja_ir.specs.Initializing.{InitAt, inits_of, inits_of_class}
+use Rattle.ja_facts.specs.Least.{Each, Least}
 use Rattle.ja_facts.specs.Slots.{Slot, CallAt}
 use Rattle.ja_facts.specs.Actions.{IsInitialiser, IsConstructor, IsEntry}
-use Rattle.ja_facts.specs.ClassSets.{Fact as ClassFact}
-use Rattle.ja_facts.specs.Held.{Fact as HeldFact, Cell}
-use Rattle.ja_facts.specs.Sharing.{Fact as HeapFact}
-use Rattle.ja_facts.specs.Reaching.{Fact as ReachFact}
+use Rattle.ja_facts.specs.Held.{Cell}
+use Rattle.ja_facts.specs.Analyses.{Analyses}
 use Rattle.ja_facts.specs.Formulas.{Assignment, IsNormalEnd, IsExceptionalEnd}
-use Rattle.ja_facts.specs.Equations.{Fact, Context, Rule, MayBeTrue, HoldsStored, Calls, Stores, stores_field, stores_static, stores_reference, stores_word, stores_pair, stored_facts, initialiser_called, constructor_called, entry_called, called, begins, steps, steps_held, returns, caught, callee_caught, leaves, callee_leaves, returned, ended, stored, taken}
+use Rattle.ja_facts.specs.Equations.{Fact, Context, Rule, MayBegin, MayBeTrue, HoldsStored, Calls, Stores, stores_field, stores_static, stores_reference, stores_word, stores_pair, stored_facts, initialiser_called, constructor_called, entry_called, called, initialised, begins, steps, reads_stored_field, call_resumes, initialiser_resumes, caught, callee_caught, leaves, callee_leaves, method_returns, method_ends, stored, taken}
 use Rattle.ja_facts.specs.Marks.{HasMarked, MarkMore, with_entries}
-use Rattle.ja_facts.proofs.LeastLaws.{Least-monotone}
+use Rattle.ja_facts.proofs.LeastLaws.{Least-is_solution, Least-below}
+use Rattle.ja_facts.proofs.Reasons.{Chosen, choose, all-chosen, each-inside}
 
 module _ (p : Parts) (entries : List Entry) where
   at : {m i height : ℕ} {op : Op} → OpAt p m i op height → OpAt (with_entries p entries) m i op height
@@ -50,8 +51,11 @@ module _ (p : Parts) (entries : List Entry) where
   goes : (m i t : ℕ) (place : Place) → Contains (dest p m i t) place → Contains (dest (with_entries p entries) m i t) place
   goes m i t place x = subst (λ (places : List Place). Contains places place) (sym (same-among i t (handlers_of (slice_get p.methods m)))) x
 
-  initialises : {m : ℕ} → IsInitialiser p m → IsInitialiser (with_entries p entries) m
-  initialises x = record { method = x.method; found = x.found; initialises = x.initialises }
+  init : {m i n : ℕ} → InitAt p m i n → InitAt (with_entries p entries) m i n
+  init x = record { instr = x.instr; found = x.found; listed = inits x.instr.op x.listed }
+    where
+      inits : {n : ℕ} (op : Op) → Contains (inits_of p op) (record { 0 = n }) → Contains (inits_of (with_entries p entries) op) (record { 0 = n })
+      inits op l = l
 
   stores : {op : Op} {height : ℕ} {cell : Cell} {v : Slot} → Stores p op height cell v → Stores (with_entries p entries) op height cell v
   stores (stores_field h) = stores_field h
@@ -60,56 +64,86 @@ module _ (p : Parts) (entries : List Entry) where
   stores (stores_word h) = stores_word h
   stores (stores_pair h) = stores_pair h
 
-  module _ (C : ClassFact → Type 0) (O : HeldFact → Type 0) (H : HeapFact → Type 0) (R : ReachFact → Type 0) where
-    normal : {m i : ℕ} {b after : Assignment} → IsNormalEnd p C H R m i b after → IsNormalEnd (with_entries p entries) C H R m i b after
+  module _ (A : Analyses) where
+    normal : {m i : ℕ} {b after : Assignment} → IsNormalEnd p A m i b after → IsNormalEnd (with_entries p entries) A m i b after
     normal x = record { instr = x.instr; found = x.found; reached = x.reached; goes_on = x.goes_on; library = x.library; slots = x.slots; dirt = x.dirt; exc = x.exc }
 
-    exceptional : {m i : ℕ} {b after : Assignment} → IsExceptionalEnd p C H m i b after → IsExceptionalEnd (with_entries p entries) C H m i b after
+    exceptional : {m i : ℕ} {b after : Assignment} → IsExceptionalEnd p A m i b after → IsExceptionalEnd (with_entries p entries) A m i b after
     exceptional x = record { instr = x.instr; found = x.found; reached = x.reached; throws = x.throws }
 
-    calls : {m i n under : ℕ} {c : CallOp} {b a : Assignment} → Calls p C m i n c under b a → Calls (with_entries p entries) C m i n c under b a
+    calls : {m i n under : ℕ} {c : CallOp} {b a : Assignment} → Calls p A m i n c under b a → Calls (with_entries p entries) A m i n c under b a
     calls x = record { at = call x.at; goes = x.goes; method = x.method; found = x.found; hands = x.hands }
 
     -- an entry that is there with more marks
     module _ (more : MarkMore p.entries entries) where
+      initialises : {m : ℕ} → IsInitialiser p m → IsInitialiser (with_entries p entries) m
+      initialises {m = m} x =
+          let y : HasMarked entries x.entry = more x.entry x.listed in
+          record { entry = y.other; listed = y.listed; initialises = subst (λ (c : ClassId). Contains (inits_of_class (slice_get p.classes c.0)) (record { 0 = m })) (sym y.class) x.initialises }
+
       is_entry : (entry : Entry) (method : Method) (x : IsEntry p entry method) → IsEntry (with_entries p entries) (more entry x.listed).other method
       is_entry entry method x =
           let y : HasMarked entries entry = more entry x.listed in
           record { listed = y.listed; found = ap (λ (n : MethodId). slice_get p.methods n.0) y.method ∙ x.found }
 
-      may_be : (entry : Entry) (method : Method) (x : IsEntry p entry method) (cells : List Cell) (z : Slot) → MayBeTrue C O entry method cells z → MayBeTrue C O (more entry x.listed).other method cells z
+      may_be : (entry : Entry) (method : Method) (x : IsEntry p entry method) (cells : List Cell) (z : Slot) → MayBeTrue A entry method cells z → MayBeTrue A (more entry x.listed).other method cells z
       may_be entry method x cells z t =
           let y : HasMarked entries entry = more entry x.listed in
           record {
             k = t.k;
             below = t.below;
             is_slot = t.is_slot;
-            why = elim t.why [ inl marked ↦ inl (y.marked t.k marked) | inr holds ↦ inr (subst (λ (n : MethodId). HoldsStored C O n.0 method t.k cells) (sym y.method) holds) ];
+            why = elim t.why [ inl marked ↦ inl (y.marked t.k marked) | inr holds ↦ inr (subst (λ (n : MethodId). HoldsStored A n.0 method t.k cells) (sym y.method) holds) ];
           }
 
-      pub more_rules : (ps : List Fact) (f : Fact) → Rule p C O H R ps f → Rule (with_entries p entries) C O H R ps f
-      more_rules _ _ (initialiser_called x) = initialiser_called (initialises x)
-      more_rules _ _ (constructor_called {m = m} entry objects cons) =
-          let y : HasMarked entries entry = more entry objects.is_entry.listed in
-          constructor_called y.other (record { method = objects.method; is_entry = is_entry entry objects.method objects.is_entry; member = objects.member })
-          (subst (λ (n : ClassId). IsConstructor (with_entries p entries) n.0 m) (sym y.class) cons)
-      more_rules _ _ (entry_called {a = a} entry method cells x may dirt exc) =
-          let y : HasMarked entries entry = more entry x.listed in
-          subst (λ (n : MethodId). Rule (with_entries p entries) C O H R (stored_facts cells) (Context n.0 a)) y.method
-          (entry_called y.other method cells (is_entry entry method x) (λ z t. may_be entry method x cells z (may z t)) dirt exc)
-      more_rules _ _ (called x) = called (calls x)
-      more_rules _ _ begins = begins
-      more_rules _ _ (steps o l n r) = steps (at o) (leads l) (normal n) r
-      more_rules _ _ (steps_held o l n r t h) = steps_held (at o) (leads l) (normal n) r t h
-      more_rules _ _ (returns c l r) = returns (calls c) (leads l) r
-      more_rules _ _ (caught {m = m} {i = i} {j = j} {t = k} t d e h) = caught t (goes m i k (Inside j) d) (exceptional e) h
-      more_rules _ _ (callee_caught {m = m} {i = i} {j = j} {t = k} c t d e h) = callee_caught (calls c) t (goes m i k (Inside j) d) e h
-      more_rules _ _ (leaves {m = m} {i = i} {t = k} t d e) = leaves t (goes m i k Outside d) (exceptional e)
-      more_rules _ _ (callee_leaves {m = m} {i = i} {t = k} c t d e) = callee_leaves (calls c) t (goes m i k Outside d) e
-      more_rules _ _ (returned o) = returned (at o)
-      more_rules _ _ (ended o) = ended (at o)
-      more_rules _ _ (stored o s t) = stored (at o) (stores s) t
-      more_rules _ _ (taken c t h) = taken (call c) t h
+      begins_more : (entry : Entry) (a : Assignment) (cells : List Cell) (x : MayBegin p A entry a cells)
+          → (kept : List Cell) × MayBegin (with_entries p entries) A (more entry x.is_entry.listed).other a kept × ((c : Cell) → Contains kept c → Contains cells c)
+      begins_more entry a cells x =
+          let other : Entry = (more entry x.is_entry.listed).other in
+          let may : (z : Slot) → a.slot z ≡ true → MayBeTrue A other x.method cells z = λ z t. may_be entry x.method x.is_entry cells z (x.parameters z t) in
+          let chosen : Chosen A other x.method a cells (param_count x.method) = choose A other x.method a cells may (param_count x.method) in (
+            chosen.chosen,
+            record {
+              method = x.method;
+              is_entry = is_entry entry x.method x.is_entry;
+              parameters = all-chosen A other x.method a cells may chosen;
+              reasons = chosen.reasons;
+              once = chosen.once;
+              dirt = x.dirt;
+              exc = x.exc;
+            },
+            chosen.inside,
+          )
 
-      pub more_facts : (f : Fact) → Least (Rule p C O H R) f → Least (Rule (with_entries p entries) C O H R) f
-      more_facts = Least-monotone (Rule p C O H R) (Rule (with_entries p entries) C O H R) more_rules
+      by : (ps : List Fact) (f : Fact) → Rule (with_entries p entries) A ps f → Each (Least (Rule (with_entries p entries) A)) ps → Least (Rule (with_entries p entries) A) f
+      by = Least-is_solution (Rule (with_entries p entries) A)
+
+      more_solves : (ps : List Fact) (f : Fact) → Rule p A ps f → Each (Least (Rule (with_entries p entries) A)) ps → Least (Rule (with_entries p entries) A) f
+      more_solves ps f (initialiser_called x is) each = by ps f (initialiser_called (initialises x) is) each
+      more_solves ps f (constructor_called {m = m} entry objects cons is) each =
+          let y : HasMarked entries entry = more entry objects.is_entry.listed in
+          by ps f (constructor_called y.other (record { method = objects.method; is_entry = is_entry entry objects.method objects.is_entry; member = objects.member })
+          (subst (λ (n : ClassId). IsConstructor (with_entries p entries) n.0 m) (sym y.class) cons) is) each
+      more_solves ps f (entry_called {a = a} entry cells x) each =
+          let y : HasMarked entries entry = more entry x.is_entry.listed in
+          let less : (kept : List Cell) × MayBegin (with_entries p entries) A (more entry x.is_entry.listed).other a kept × ((c : Cell) → Contains kept c → Contains cells c) = begins_more entry a cells x in
+          subst (λ (n : MethodId). Least (Rule (with_entries p entries) A) (Context n.0 a)) y.method
+          (by (stored_facts less.0) (Context y.other.method.0 a) (entry_called y.other less.0 less.1) (each-inside (Least (Rule (with_entries p entries) A)) cells less.0 less.2 each))
+      more_solves ps f (called x) each = by ps f (called (calls x)) each
+      more_solves ps f (initialised x is) each = by ps f (initialised (init x) is) each
+      more_solves ps f begins each = by ps f begins each
+      more_solves ps f (steps o l n r) each = by ps f (steps (at o) (leads l) (normal n) r) each
+      more_solves ps f (reads_stored_field o l n r t h) each = by ps f (reads_stored_field (at o) (leads l) (normal n) r t h) each
+      more_solves ps f (call_resumes c l r) each = by ps f (call_resumes (calls c) (leads l) r) each
+      more_solves ps f (initialiser_resumes o x is r) each = by ps f (initialiser_resumes (at o) (init x) is r) each
+      more_solves ps f (caught {m = m} {i = i} {j = j} {t = k} t d e h) each = by ps f (caught t (goes m i k (Inside j) d) (exceptional e) h) each
+      more_solves ps f (callee_caught {m = m} {i = i} {j = j} {t = k} c t d e h) each = by ps f (callee_caught (calls c) t (goes m i k (Inside j) d) e h) each
+      more_solves ps f (leaves {m = m} {i = i} {t = k} t d e) each = by ps f (leaves t (goes m i k Outside d) (exceptional e)) each
+      more_solves ps f (callee_leaves {m = m} {i = i} {t = k} c t d e) each = by ps f (callee_leaves (calls c) t (goes m i k Outside d) e) each
+      more_solves ps f (method_returns o) each = by ps f (method_returns (at o)) each
+      more_solves ps f (method_ends o) each = by ps f (method_ends (at o)) each
+      more_solves ps f (stored o s t) each = by ps f (stored (at o) (stores s) t) each
+      more_solves ps f (taken c t h) each = by ps f (taken (call c) t h) each
+
+      pub more_facts : (f : Fact) → Least (Rule p A) f → Least (Rule (with_entries p entries) A) f
+      more_facts = Least-below (Rule p A) (Least (Rule (with_entries p entries) A)) more_solves

@@ -4,13 +4,14 @@ use Rattle.ja_ir.specs.declared.program.Parts.{Parts}
 use Rattle.ja_ir.specs.declared.method.Method.{Method}
 use Rattle.ja_ir.specs.declared.entry.Entry.{Entry}
 use Rattle.ja_ir.specs.Lookup.{is_member}
-use Rattle.ja_ir.specs.Entries.{is_initializer, constructor_of}
+use Rattle.ja_ir.specs.Entries.{constructor_of}
+use Rattle.ja_ir.specs.Initializing.{inits_of_class}
 
--- m is the class initialiser of a program class (JVM specification 2.9)
+-- the environment may run m to initialise the class of an entry: it is a class initialiser of that class or of a program supertype
 pub record IsInitialiser (p : Parts) (m : ℕ) : Type 0 where
-  pub method : Method
-  pub found : slice_get p.methods m ≡ Some method
-  pub initialises : is_initializer method ≡ true
+  pub entry : Entry
+  pub listed : Contains p.entries entry
+  pub initialises : Contains (inits_of_class (slice_get p.classes entry.class.0)) (record { 0 = m })
 
 -- m is the constructor without parameters of class c
 abbrev pub IsConstructor : Parts → (c m : ℕ) → Type 0

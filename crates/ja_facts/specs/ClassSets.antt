@@ -23,7 +23,9 @@ use Rattle.ja_ir.specs.Lookup.{OpAt, Leads, is_static, is_member, is_abstract, i
 use Rattle.ja_ir.specs.Operations.{arguments, has_receiver, is_dispatched, may_throw}
 use Rattle.ja_ir.specs.Tokens.{text_token, lib_token, rarr_token, parr_token, fits, absorbs, names_program, fresh_tokens, bagged_tokens}
 use Rattle.ja_ir.specs.Handlers.{dest, Inside, Outside}
-use Rattle.ja_facts.specs.Slots.{Slot, Local, OnStack, Copies, CallAt, HasParam, param_local}
+use Rattle.ja_ir.specs.Initializing.{InitAt}
+use Rattle.ja_ir.specs.Params.{HasParam, param_local}
+use Rattle.ja_facts.specs.Slots.{Slot, Local, OnStack, Copies, CallAt, argument}
 use Rattle.ja_facts.specs.Actions.{IsInitialiser, IsConstructor, IsEntry, HasObjects}
 
 -- what class sets and the call graph say
@@ -44,8 +46,8 @@ pub data Fact : Type 0 where
   CallsMethod : (m i n : ℕ) → Fact
   CallsAbstract : (m i n : ℕ) → Fact
   CallsLibrary : (m i : ℕ) → Fact
-  -- what argument k of a library call is or leads to, by fields of program objects and by bags, may be of token t
-  InSpan : (m i k t : ℕ) → Fact
+  -- an object of token t is or leads to one of token u, by fields of program objects and by bags
+  Spans : (t u : ℕ) → Fact
   -- objects of token b may take the arguments of a library call into their bags
   Takes : (m i b : ℕ) → Fact
 
@@ -108,10 +110,6 @@ pub data Dispatches (p : Parts) (call : CallOp) (t : ℕ) : MethodAt → Type 0 
       → Dispatches p call t (select p t call.name call.desc)
   elsewhere : (IsClass p t → ⊥) → names_program p call.class ≡ false → Dispatches p call t Library
 
--- argument k of the call stands here, over so many values under the arguments
-abbrev pub argument : (under k : ℕ) → Slot
-argument under k = OnStack (under + k)
-
 -- argument k is one of those whose objects a call with this effect may change
 abbrev pub IsSource : CallOp → (k : ℕ) → RowEffect → Type 0
 IsSource call k Quiet = ⊥
@@ -151,6 +149,7 @@ pub data Rule (p : Parts) : List Fact → Fact → Type 0 where
   env_bag : {b t : ℕ} → IsLibraryBag p b → Rule p (InEnv b ∷ InEnv t ∷ []) (InBag b t)
   -- control goes on, and values move with it
   next_reached : {m i j : ℕ} → Leads p m i j → Rule p (Reached m i ∷ []) (Reached m j)
+  initialises : {m i n : ℕ} → InitAt p m i n → Rule p (Reached m i ∷ []) (Reached n 0)
   begins : {m k t : ℕ} (method : Method) → slice_get p.methods m ≡ Some method
       → Rule p (Reached m 0 ∷ InParam m k t ∷ []) (InSlot m 0 (Local (param_local method k)) t)
   moved : {m i j t height : ℕ} {op : Op} {z y : Slot} → OpAt p m i op height → Leads p m i j → Copies op height z y → Passes p op height z t
@@ -210,14 +209,13 @@ pub data Rule (p : Parts) : List Fact → Fact → Type 0 where
   null_receiver : {m i under : ℕ} {call : CallOp} → CallAt p m i call under → has_receiver call.kind ≡ true → Rule p (Reached m i ∷ []) (InThrown m i (lib_token p))
   abstract_throws : {m i n : ℕ} → Rule p (Reached m i ∷ CallsAbstract m i n ∷ []) (InThrown m i (lib_token p))
   library_throws : {m i : ℕ} → Rule p (Reached m i ∷ CallsLibrary m i ∷ []) (InThrown m i (lib_token p))
-  -- calls of the library: what the arguments lead to
-  span_argument : {m i under k t : ℕ} {call : CallOp} → CallAt p m i call under → k < arguments call
-      → Rule p (Reached m i ∷ CallsLibrary m i ∷ InSlot m i (argument under k) t ∷ []) (InSpan m i k t)
-  span_field : {m i k u f t : ℕ} → HasField p u f → Rule p (InSpan m i k u ∷ InField f t ∷ []) (InSpan m i k t)
-  span_bag : {m i k u t : ℕ} → absorbs p u ≡ true → Rule p (InSpan m i k u ∷ InBag u t ∷ []) (InSpan m i k t)
-  -- what takes the arguments
-  taker : {m i under k b : ℕ} {call : CallOp} → CallAt p m i call under → IsSource call k call.row.effect → absorbs p b ≡ true
-      → Rule p (Reached m i ∷ CallsLibrary m i ∷ InSpan m i k b ∷ []) (Takes m i b)
+  -- what objects lead to
+  spans_itself : {t : ℕ} → Rule p [] (Spans t t)
+  spans_field : {t u v : ℕ} (f : ℕ) → HasField p u f → Rule p (Spans t u ∷ InField f v ∷ []) (Spans t v)
+  spans_bag : {t u v : ℕ} → absorbs p u ≡ true → Rule p (Spans t u ∷ InBag u v ∷ []) (Spans t v)
+  -- calls of the library: what takes the arguments
+  taker : {m i under t b : ℕ} {call : CallOp} (k : ℕ) → CallAt p m i call under → IsSource call k call.row.effect → absorbs p b ≡ true
+      → Rule p (Reached m i ∷ CallsLibrary m i ∷ InSlot m i (argument under k) t ∷ Spans t b ∷ []) (Takes m i b)
   taken : {m i under k b t : ℕ} {call : CallOp} → CallAt p m i call under → k < arguments call
       → Rule p (Reached m i ∷ Takes m i b ∷ InSlot m i (argument under k) t ∷ []) (InBag b t)
   -- what is answered
@@ -228,6 +226,6 @@ pub data Rule (p : Parts) : List Fact → Fact → Type 0 where
   library_argument : {m i j under t : ℕ} {call : CallOp} {type : JavaType} → CallAt p m i call under → Leads p m i j → HasReference call type
       → call.row.result ≡ Argument → 0 < arguments call → fits p t type.name ≡ true
       → Rule p (Reached m i ∷ CallsLibrary m i ∷ InSlot m i (argument under 0) t ∷ []) (InSlot m j (OnStack under) t)
-  library_member : {m i j under k t : ℕ} {call : CallOp} {type : JavaType} → CallAt p m i call under → Leads p m i j → HasReference call type
-      → LeadsFrom call k call.row.result → fits p t type.name ≡ true
-      → Rule p (Reached m i ∷ CallsLibrary m i ∷ InSpan m i k t ∷ []) (InSlot m j (OnStack under) t)
+  library_member : {m i j under t u : ℕ} {call : CallOp} {type : JavaType} (k : ℕ) → CallAt p m i call under → Leads p m i j → HasReference call type
+      → LeadsFrom call k call.row.result → fits p u type.name ≡ true
+      → Rule p (Reached m i ∷ CallsLibrary m i ∷ InSlot m i (argument under k) t ∷ Spans t u ∷ []) (InSlot m j (OnStack under) u)

@@ -6,8 +6,8 @@ use Rattle.ja_ir.specs.declared.method.Instr.{Instr}
 use Rattle.ja_ir.specs.declared.op.Op.{Op}
 use Rattle.ja_ir.specs.declared.op.Op.TheVariants.{Throw, Call}
 use Rattle.ja_ir.specs.Operations.{may_throw}
+use Rattle.ja_ir.specs.Params.{param_count}
 use Rattle.ja_facts.specs.Listing.{listed_at}
-use Rattle.ja_facts.specs.Slots.{param_count}
 
 -- the number of tokens of a program
 abbrev pub token_count : Parts → ℕ

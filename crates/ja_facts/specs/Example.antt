@@ -1,5 +1,4 @@
--- A small program: main puts a tainted text into a static field, passes it to a sink, and throws it; beside it stands a class
--- initialiser.
+-- A small program: main puts a tainted text into a static field, passes it to a sink, and throws it; its class has a class initialiser.
 use Rattle.std.specs.Prelude.{ℕ, zero, suc, Bool, true, false, List, [], ◌∷◌, Some, None, codes}
 use Rattle.ja_base.specs.declared.java_type.Kind.TheVariants.{R}
 use Rattle.ja_ir.specs.declared.program.Parts.{Parts}
@@ -15,14 +14,9 @@ use Rattle.ja_ir.specs.declared.op.CallOp.{CallOp}
 use Rattle.ja_ir.specs.declared.op.CallKind.TheVariants.{Static}
 use Rattle.ja_ir.specs.declared.op.Op.{Op}
 use Rattle.ja_ir.specs.declared.op.Op.TheVariants.{Call, PutStatic, GetStatic, Throw, Return}
+use Rattle.ja_ir.specs.Examples.{no_types}
 use Rattle.ja_facts.specs.Slots.{Slot, Local, OnStack}
-use Rattle.ja_facts.specs.Least.{Least}
-use Rattle.ja_facts.specs.ClassSets.{Fact as ClassFact, Rule as ClassRule}
-use Rattle.ja_facts.specs.Held.{Fact as HeldFact, Rule as HeldRule}
-use Rattle.ja_facts.specs.Sharing.{Fact as HeapFact, Rule as HeapRule}
-use Rattle.ja_facts.specs.Reaching.{Fact as ReachFact, Rule as ReachRule}
 use Rattle.ja_facts.specs.Formulas.{Assignment, Summary}
-use Rattle.ja_facts.specs.Equations.{Fact, Rule}
 
 -- an instruction that is reached
 abbrev pub reached_instr : (pc : ℕ) → Op → (next : List ℕ) → (height : ℕ) → Instr
@@ -37,7 +31,7 @@ source_call = record {
   desc = codes "()Ljava/lang/String;";
   params = [];
   result = Some (record { kind = R; name = codes "java/lang/String" });
-  row = record { flow = Always; effect = Quiet; result = Fresh; sinks = [] };
+  row = record { flow = Always; effect = Quiet; result = Fresh; sinks = []; marks = true ∷ []; category = 0 };
   found = Some Library;
 }
 
@@ -50,7 +44,7 @@ sink_call = record {
   desc = codes "(Ljava/lang/String;)V";
   params = record { kind = R; name = codes "java/lang/String" } ∷ [];
   result = None;
-  row = record { flow = Never; effect = Quiet; result = Fresh; sinks = 0 ∷ [] };
+  row = record { flow = Never; effect = Quiet; result = Fresh; sinks = 0 ∷ []; marks = true ∷ []; category = 0 };
   found = Some Library;
 }
 
@@ -60,6 +54,7 @@ example_main = record {
   class = record { 0 = 0 };
   name = codes "main";
   desc = codes "()V";
+  types = no_types;
   flags = 9;
   locals = 0;
   stack = 1;
@@ -75,6 +70,7 @@ example_initialiser = record {
   class = record { 0 = 0 };
   name = codes "<clinit>";
   desc = codes "()V";
+  types = no_types;
   flags = 8;
   locals = 0;
   stack = 0;
@@ -84,21 +80,26 @@ example_initialiser = record {
 
 -- main is called by the environment
 abbrev pub example_entry : Entry
-example_entry = record { class = record { 0 = 0 }; method = record { 0 = 0 }; marked = [] }
+example_entry = record { class = record { 0 = 0 }; method = record { 0 = 0 }; marked = []; marks = true ∷ [] }
 
 -- the call of the sink
 abbrev pub example_site : Site
-example_site = record { method = record { 0 = 0 }; index = 3; positions = 0 ∷ []; target = codes "demo/Taint.sink(Ljava/lang/String;)V" }
+example_site = record { method = record { 0 = 0 }; index = 3; positions = 0 ∷ []; target = codes "demo/Taint.sink(Ljava/lang/String;)V"; category = 0 }
 
 -- the program
 abbrev pub example : Parts
 example = record {
-  classes = record { name = codes "A"; file = codes "A.class"; flags = 33; absorbing = false; supers = record { 0 = 0 } ∷ []; selections = [] } ∷ [];
+  classes = record { name = codes "A"; file = codes "A.class"; flags = 33; absorbing = false; supers = record { 0 = 0 } ∷ []; selections = []; inits = record { 0 = 1 } ∷ [] } ∷ [];
   methods = example_main ∷ example_initialiser ∷ [];
   fields = record { class = record { 0 = 0 }; name = codes "f"; desc = codes "Ljava/lang/String;"; flags = 9; text = false } ∷ [];
   entries = example_entry ∷ [];
   sites = example_site ∷ [];
+  categories = [];
 }
+
+-- nothing is true
+abbrev pub nothing : Assignment
+nothing = record { slot = λ z. false; dirt = false; exc = false }
 
 -- only the lowest value on the stack is true
 abbrev pub lowest : Slot → Bool
@@ -117,23 +118,3 @@ clean_return = record { result = false; dirt = false; exc = false }
 -- a throw of something tainted
 abbrev pub tainted_throw : Summary
 tainted_throw = record { result = false; dirt = false; exc = true }
-
--- the least class sets and call graph of the program
-abbrev pub Classes : ClassFact → Type 0
-Classes = Least (ClassRule example)
-
--- the least cells that its tokens and fields hold
-abbrev pub Helds : HeldFact → Type 0
-Helds = Least (HeldRule example Classes)
-
--- its least pairs and effects
-abbrev pub Heaps : HeapFact → Type 0
-Heaps = Least (HeapRule example Classes)
-
--- its least reachability
-abbrev pub Reaches : ReachFact → Type 0
-Reaches = Least (ReachRule example Classes Heaps)
-
--- its equations
-abbrev pub Rules : List Fact → Fact → Type 0
-Rules = Rule example Classes Helds Heaps Reaches

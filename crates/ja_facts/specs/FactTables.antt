@@ -6,9 +6,9 @@ use Rattle.ja_ir.specs.declared.method.Instr.{Instr}
 use Rattle.ja_ir.specs.declared.op.Op.{Op}
 use Rattle.ja_ir.specs.declared.op.Op.TheVariants.{Call}
 use Rattle.ja_facts.specs.declared.targets.Targets.{Targets}
+use Rattle.ja_ir.specs.Params.{param_count}
 use Rattle.ja_facts.specs.Listing.{listed_at}
 use Rattle.ja_facts.specs.ClassTables.{token_count, no_members}
-use Rattle.ja_facts.specs.Slots.{param_count}
 
 -- no target
 abbrev pub no_targets : Targets

@@ -16,11 +16,12 @@ use Rattle.ja_ir.specs.declared.op.CallOp.{CallOp}
 use Rattle.ja_ir.specs.declared.op.Op.{Op}
 use Rattle.ja_ir.specs.declared.op.Op.TheVariants.{Const, ArrLoad, ArrStore, Mix, GetStatic, PutField, GetField, Call, ArrLen, Throw, InstanceOf}
 use Rattle.ja_ir.specs.Lookup.{instr_at}
-use Rattle.ja_ir.specs.Operations.{arguments, has_receiver, may_throw, ends_method, height_after}
-use Rattle.ja_facts.specs.Slots.{Slot, Local, OnStack, Copies}
-use Rattle.ja_facts.specs.ClassSets.{Fact as ClassFact, CallsAbstract, CallsLibrary, argument, IsSource}
-use Rattle.ja_facts.specs.Sharing.{Fact as HeapFact, PairAt, Effect, Root, At, Makes, Writes, Answers, IsRootOf, root_name}
-use Rattle.ja_facts.specs.Reaching.{Fact as ReachFact, ReachAt}
+use Rattle.ja_ir.specs.Operations.{arguments, count_of, has_receiver, may_throw, ends_method, height_after}
+use Rattle.ja_facts.specs.Slots.{Slot, Local, OnStack, Copies, argument, IsLeft}
+use Rattle.ja_facts.specs.ClassSets.{CallsAbstract, CallsLibrary, IsSource}
+use Rattle.ja_facts.specs.Sharing.{PairAt, Effect, Root, At, Makes, Writes, IsRootOf, root_name}
+use Rattle.ja_facts.specs.Reaching.{ReachAt}
+use Rattle.ja_facts.specs.Analyses.{Analyses}
 
 -- which slots of a frame are true; whether something was stored that is tainted; and at an exceptional end whether what is thrown is
 pub record Assignment : Type 0 where
@@ -97,35 +98,41 @@ pub data Loads : Op → (height : ℕ) → (x r : Slot) → Type 0 where
   loads_element : {kind : Kind} {height k : ℕ} → height ≡ suc (suc k) → Loads (ArrLoad kind) height (OnStack k) (OnStack k)
 
 -- the slot has a pair with a source of the library call
-pub record MeetsSource (H : HeapFact → Type 0) (m i : ℕ) (call : CallOp) (under : ℕ) (y : Slot) : Type 0 where
+pub record MeetsSource (A : Analyses) (m i : ℕ) (call : CallOp) (under : ℕ) (y : Slot) : Type 0 where
   pub x : ℕ
   pub source : IsSource call x call.row.effect
-  pub pair : H (PairAt m i (At y) (At (argument under x)))
+  pub pair : A.heaps (PairAt m i (At y) (At (argument under x)))
 
 -- at a normal end of an operation with so many values on the stack before it, the slot may have this truth
-pub data Turns (H : HeapFact → Type 0) (R : ReachFact → Type 0) (m i : ℕ) (b : Assignment) : Op → (height : ℕ) → Slot → Bool → Type 0 where
-  -- the truth moves with the value, and is false above the stack
-  copied : {op : Op} {height : ℕ} {z y : Slot} → Copies op height z y → Turns H R m i b op height y (b.slot z)
-  above : {op : Op} {height k : ℕ} → height_after op height ≤ k → Turns H R m i b op height (OnStack k) false
-  -- what is new is false
-  constant : {kind : Kind} {height : ℕ} → Turns H R m i b (Const kind) height (OnStack height) false
-  made : {op : Op} {height : ℕ} {r : Slot} → Makes op height r → Turns H R m i b op height r false
-  measured : {height k : ℕ} → height ≡ suc k → Turns H R m i b ArrLen height (OnStack k) false
-  tested : {height k : ℕ} → height ≡ suc k → Turns H R m i b InstanceOf height (OnStack k) false
+pub data Turns (A : Analyses) (m i : ℕ) (b : Assignment) : Op → (height : ℕ) → Slot → Bool → Type 0 where
+  -- the truth moves with the value
+  copied : {op : Op} {height : ℕ} {z y : Slot} → Copies op height z y → Turns A m i b op height y (b.slot z)
+  -- above the stack nothing is true
+  above : {op : Op} {height k : ℕ} → height_after op height ≤ k → Turns A m i b op height (OnStack k) false
+  -- a constant is false
+  constant : {kind : Kind} {height : ℕ} → Turns A m i b (Const kind) height (OnStack height) false
+  -- so is a new object
+  made : {op : Op} {height : ℕ} {r : Slot} → Makes op height r → Turns A m i b op height r false
+  -- so is a length
+  measured : {height k : ℕ} → height ≡ suc k → Turns A m i b ArrLen height (OnStack k) false
+  -- so is the answer of a test
+  tested : {height k : ℕ} → height ≡ suc k → Turns A m i b InstanceOf height (OnStack k) false
   -- what is computed is true where an operand is
   mixed : {n height under : ℕ} {kind : Kind} {throws : Bool} → height ≡ under + n
-      → Turns H R m i b (Mix n kind throws) height (OnStack under) (any_stacked b under n)
-  -- what is read of an object is true at most where the object is, and what is read of a static field is anything
-  loaded : {op : Op} {height : ℕ} {x r : Slot} {t : Bool} → Loads op height x r → Implies t (b.slot x) → Turns H R m i b op height r t
-  static_loaded : {f height : ℕ} {t : Bool} → Turns H R m i b (GetStatic (record { 0 = f })) height (OnStack height) t
-  -- a write may make true what may reach the object
-  written : {op : Op} {height : ℕ} {x v y : Slot} {t : Bool} → Writes op height x v → Copies op height y y → R (ReachAt m i (At y) x)
-      → Implies t (b.slot y || b.slot v) → Turns H R m i b op height y t
+      → Turns A m i b (Mix n kind throws) height (OnStack under) (any_stacked b under n)
+  -- what is read of an object is true at most where the object is
+  loaded : {op : Op} {height : ℕ} {x r : Slot} {t : Bool} → Loads op height x r → Implies t (b.slot x) → Turns A m i b op height r t
+  -- what is read of a static field is anything
+  static_loaded : {f height : ℕ} {t : Bool} → Turns A m i b (GetStatic (record { 0 = f })) height (OnStack height) t
+  -- a write may make true what may reach the object, where the value is true
+  written : {op : Op} {height : ℕ} {x v y : Slot} {t : Bool} → Writes op height x v → Copies op height y y → A.reach (ReachAt m i (At y) x)
+      → Implies t (b.slot y || b.slot v) → Turns A m i b op height y t
   -- a library call may make true what meets a source of its effect
   absorbed : {call : CallOp} {height : ℕ} {y : Slot} {t : Bool} (under : ℕ) → height ≡ under + arguments call → Copies (Call call) height y y
-      → MeetsSource H m i call under y → Implies t (b.slot y || put_in b call under) → Turns H R m i b (Call call) height y t
+      → MeetsSource A m i call under y → Implies t (b.slot y || put_in b call under) → Turns A m i b (Call call) height y t
+  -- and it answers something that is true at most as its row says
   answered : {call : CallOp} {height : ℕ} {type : JavaType} {t : Bool} (under : ℕ) → height ≡ under + arguments call → call.result ≡ Some type
-      → Implies t (answer_of type.kind b call under) → Turns H R m i b (Call call) height (OnStack under) t
+      → Implies t (answer_of type.kind b call under) → Turns A m i b (Call call) height (OnStack under) t
 
 -- whether something was stored that is tainted, after a normal end: it is the topmost value that a write stores
 abbrev pub dirt_after : Op → (height : ℕ) → Assignment → Bool
@@ -135,18 +142,18 @@ dirt_after (Call call) height b = b.dirt || changes b call (height - arguments c
 dirt_after _ height b = b.dirt
 
 -- a call goes to the library; another operation says nothing here
-abbrev pub IsLibraryPart : (ClassFact → Type 0) → (m i : ℕ) → Op → Type 0
-IsLibraryPart C m i (Call _) = C (CallsLibrary m i)
-IsLibraryPart C m i _ = Unit {0}
+abbrev pub IsLibraryPart : Analyses → (m i : ℕ) → Op → Type 0
+IsLibraryPart A m i (Call _) = A.classes (CallsLibrary m i)
+IsLibraryPart A m i _ = Unit {0}
 
 -- the normal end of instruction i of method m, at a call that of its library part: from the one assignment it may lead to the other
-pub record IsNormalEnd (p : Parts) (C : ClassFact → Type 0) (H : HeapFact → Type 0) (R : ReachFact → Type 0) (m i : ℕ) (b after : Assignment) : Type 0 where
+pub record IsNormalEnd (p : Parts) (A : Analyses) (m i : ℕ) (b after : Assignment) : Type 0 where
   pub instr : Instr
   pub found : instr_at p m i ≡ Some instr
   pub reached : instr.reached ≡ true
   pub goes_on : ends_method instr.op ≡ false
-  pub library : IsLibraryPart C m i instr.op
-  pub slots : (y : Slot) → Turns H R m i b instr.op instr.height y (after.slot y)
+  pub library : IsLibraryPart A m i instr.op
+  pub slots : (y : Slot) → Turns A m i b instr.op instr.height y (after.slot y)
   pub dirt : after.dirt ≡ dirt_after instr.op instr.height b
   pub exc : after.exc ≡ b.exc
 
@@ -163,61 +170,74 @@ pub record Leaves (b : Assignment) (exc : Bool) (after : Assignment) : Type 0 wh
   pub is_exc : after.exc ≡ exc
 
 -- a local may have this truth after the effect of a library call
-pub data Absorbs (H : HeapFact → Type 0) (m i : ℕ) (b : Assignment) (call : CallOp) (under : ℕ) (l : ℕ) : Bool → Type 0 where
-  local_kept : Absorbs H m i b call under l (b.slot (Local l))
-  local_absorbed : {t : Bool} → MeetsSource H m i call under (Local l) → Implies t (b.slot (Local l) || put_in b call under) → Absorbs H m i b call under l t
+pub data Absorbs (A : Analyses) (m i : ℕ) (b : Assignment) (call : CallOp) (under : ℕ) (l : ℕ) : Bool → Type 0 where
+  -- it stays as it is
+  local_kept : Absorbs A m i b call under l (b.slot (Local l))
+  -- it may become true where it meets a source of the effect
+  local_absorbed : {t : Bool} → MeetsSource A m i call under (Local l) → Implies t (b.slot (Local l) || put_in b call under) → Absorbs A m i b call under l t
 
 -- an exceptional end of a library call after its effect
-pub record LeavesLibrary (H : HeapFact → Type 0) (m i : ℕ) (b : Assignment) (call : CallOp) (under : ℕ) (after : Assignment) : Type 0 where
-  pub locals : (l : ℕ) → Absorbs H m i b call under l (after.slot (Local l))
+pub record LeavesLibrary (A : Analyses) (m i : ℕ) (b : Assignment) (call : CallOp) (under : ℕ) (after : Assignment) : Type 0 where
+  pub locals : (l : ℕ) → Absorbs A m i b call under l (after.slot (Local l))
   pub stack : (k : ℕ) → after.slot (OnStack k) ≡ false
   pub dirt : after.dirt ≡ (b.dirt || changes b call under)
   pub exc : Implies after.exc (flow b call under)
 
 -- the operation of instruction i of method m may end so
-pub data Throws (C : ClassFact → Type 0) (H : HeapFact → Type 0) (m i : ℕ) (b : Assignment) : Op → (height : ℕ) → Assignment → Type 0 where
-  clean : {op : Op} {height : ℕ} {after : Assignment} → ThrowsClean op → Leaves b false after → Throws C H m i b op height after
-  at_abstract : {call : CallOp} {height : ℕ} {after : Assignment} (n : ℕ) → C (CallsAbstract m i n) → Leaves b false after → Throws C H m i b (Call call) height after
-  thrown : {height k : ℕ} {after : Assignment} → height ≡ suc k → Leaves b (b.slot (OnStack k)) after → Throws C H m i b Throw height after
-  in_library : {call : CallOp} {height : ℕ} {after : Assignment} (under : ℕ) → height ≡ under + arguments call → C (CallsLibrary m i)
-      → LeavesLibrary H m i b call under after → Throws C H m i b (Call call) height after
+pub data Throws (A : Analyses) (m i : ℕ) (b : Assignment) : Op → (height : ℕ) → Assignment → Type 0 where
+  -- with a new object, and nothing done
+  clean : {op : Op} {height : ℕ} {after : Assignment} → ThrowsClean op → Leaves b false after → Throws A m i b op height after
+  -- so too where a call finds a method without code
+  at_abstract : {call : CallOp} {height : ℕ} {after : Assignment} (n : ℕ) → A.classes (CallsAbstract m i n) → Leaves b false after → Throws A m i b (Call call) height after
+  -- with the value that is thrown
+  thrown : {height k : ℕ} {after : Assignment} → height ≡ suc k → Leaves b (b.slot (OnStack k)) after → Throws A m i b Throw height after
+  -- in the library
+  in_library : {call : CallOp} {height : ℕ} {after : Assignment} (under : ℕ) → height ≡ under + arguments call → A.classes (CallsLibrary m i)
+      → LeavesLibrary A m i b call under after → Throws A m i b (Call call) height after
 
 -- an exceptional end of instruction i of method m: from the one assignment it may lead to the other
-pub record IsExceptionalEnd (p : Parts) (C : ClassFact → Type 0) (H : HeapFact → Type 0) (m i : ℕ) (b after : Assignment) : Type 0 where
+pub record IsExceptionalEnd (p : Parts) (A : Analyses) (m i : ℕ) (b after : Assignment) : Type 0 where
   pub instr : Instr
   pub found : instr_at p m i ≡ Some instr
   pub reached : instr.reached ≡ true
-  pub throws : Throws C H m i b instr.op instr.height after
+  pub throws : Throws A m i b instr.op instr.height after
 
--- the slot has a pair with something that a call of method n may change: an argument, or the static fields
-pub record IsAffected (H : HeapFact → Type 0) (m i n : ℕ) (call : CallOp) (under : ℕ) (y : Slot) : Type 0 where
+-- the slot has a pair with something that method n may change, which instruction i of method m enters with so many arguments over so many
+-- values: an argument, or the static fields
+pub record IsAffected (A : Analyses) (m i n count under : ℕ) (y : Slot) : Type 0 where
   pub root : Root
-  pub is_root : IsRootOf call root
-  pub effect : H (Effect n root)
-  pub pair : H (PairAt m i (At y) (root_name under root))
+  pub is_root : IsRootOf count root
+  pub effect : A.heaps (Effect n root)
+  pub pair : A.heaps (PairAt m i (At y) (root_name under root))
 
--- the slot may have this truth after a call of method n with this summary
-pub data CallTurns (H : HeapFact → Type 0) (m i n : ℕ) (b : Assignment) (s : Summary) (call : CallOp) (under : ℕ) : Slot → Bool → Type 0 where
-  call_kept : {y : Slot} → Copies (Call call) (under + arguments call) y y → CallTurns H m i n b s call under y (b.slot y)
-  call_affected : {y : Slot} {t : Bool} → Copies (Call call) (under + arguments call) y y → IsAffected H m i n call under y
-      → Implies t (b.slot y || s.dirt) → CallTurns H m i n b s call under y t
-  call_answered : {y : Slot} → Answers call under y → CallTurns H m i n b s call under y s.result
-  call_above : {k : ℕ} → height_after (Call call) (under + arguments call) ≤ k → CallTurns H m i n b s call under (OnStack k) false
+-- the slot may have this truth after method n, which was entered so, has ended with this summary: the values under the arguments are left on the
+-- stack, and over them the result if there is one
+pub data CallTurns (A : Analyses) (m i n count under : ℕ) (answers : Bool) (b : Assignment) (s : Summary) : Slot → Bool → Type 0 where
+  -- what is left stays as it is
+  call_kept : {y : Slot} → IsLeft under y → CallTurns A m i n count under answers b s y (b.slot y)
+  -- it may become true where it is affected, if something tainted was stored
+  call_affected : {y : Slot} {t : Bool} → IsLeft under y → IsAffected A m i n count under y → Implies t (b.slot y || s.dirt) → CallTurns A m i n count under answers b s y t
+  -- the result is true as the summary says
+  call_answered : answers ≡ true → CallTurns A m i n count under answers b s (OnStack under) s.result
+  -- above the stack nothing is true
+  call_above : {k : ℕ} → under + count_of answers ≤ k → CallTurns A m i n count under answers b s (OnStack k) false
 
--- a call of method n that ends normally with this summary may lead from the one assignment to the other
-pub record IsReturn (H : HeapFact → Type 0) (m i n : ℕ) (b : Assignment) (s : Summary) (call : CallOp) (under : ℕ) (after : Assignment) : Type 0 where
-  pub slots : (y : Slot) → CallTurns H m i n b s call under y (after.slot y)
+-- method n, which was entered so and ended normally with this summary, may lead from the one assignment to the other
+pub record IsReturn (A : Analyses) (m i n count under : ℕ) (answers : Bool) (b : Assignment) (s : Summary) (after : Assignment) : Type 0 where
+  pub slots : (y : Slot) → CallTurns A m i n count under answers b s y (after.slot y)
   pub dirt : after.dirt ≡ (b.dirt || s.dirt)
   pub exc : after.exc ≡ b.exc
 
--- a local may have this truth after a call of method n with this summary
-pub data CallLeaves (H : HeapFact → Type 0) (m i n : ℕ) (b : Assignment) (s : Summary) (call : CallOp) (under : ℕ) (l : ℕ) : Bool → Type 0 where
-  left_kept : CallLeaves H m i n b s call under l (b.slot (Local l))
-  left_affected : {t : Bool} → IsAffected H m i n call under (Local l) → Implies t (b.slot (Local l) || s.dirt) → CallLeaves H m i n b s call under l t
+-- a local may have this truth after method n, which was entered so, has ended with this summary
+pub data CallLeaves (A : Analyses) (m i n count under : ℕ) (b : Assignment) (s : Summary) (l : ℕ) : Bool → Type 0 where
+  -- it stays as it is
+  left_kept : CallLeaves A m i n count under b s l (b.slot (Local l))
+  -- it may become true where it is affected, if something tainted was stored
+  left_affected : {t : Bool} → IsAffected A m i n count under (Local l) → Implies t (b.slot (Local l) || s.dirt) → CallLeaves A m i n count under b s l t
 
--- a call of method n that ends by an exception with this summary may lead from the one assignment to the other
-pub record IsCallThrown (H : HeapFact → Type 0) (m i n : ℕ) (b : Assignment) (s : Summary) (call : CallOp) (under : ℕ) (after : Assignment) : Type 0 where
-  pub locals : (l : ℕ) → CallLeaves H m i n b s call under l (after.slot (Local l))
+-- method n, which was entered so and ended by an exception with this summary, may lead from the one assignment to the other
+pub record IsCallThrown (A : Analyses) (m i n count under : ℕ) (b : Assignment) (s : Summary) (after : Assignment) : Type 0 where
+  pub locals : (l : ℕ) → CallLeaves A m i n count under b s l (after.slot (Local l))
   pub stack : (k : ℕ) → after.slot (OnStack k) ≡ false
   pub dirt : after.dirt ≡ (b.dirt || s.dirt)
   pub is_exc : after.exc ≡ s.exc

@@ -3,8 +3,10 @@ pub mod Slots
 pub mod Actions
 pub mod ClassSets
 pub mod Held
+pub mod Crossings
 pub mod Sharing
 pub mod Reaching
+pub mod Analyses
 pub mod Formulas
 pub mod Equations
 pub mod Verdict
@@ -13,7 +15,6 @@ pub mod ClassTables
 pub mod Listing
 pub mod ListLending
 pub mod ClassLending
-pub mod Reading
 pub mod FactTables
 pub mod FactLending
 pub mod Told

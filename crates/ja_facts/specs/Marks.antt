@@ -1,4 +1,4 @@
--- Entries that mark more.
+-- Entries that mark more positions, for the program of one category.
 use Rattle.std.specs.Prelude.{◌≡◌, ℕ, List, Contains}
 use Rattle.ja_ir.specs.declared.program.Parts.{Parts}
 use Rattle.ja_ir.specs.declared.entry.Entry.{Entry}

@@ -1,17 +1,17 @@
 -- From which names the object of which slot may be reached.
-use Rattle.std.specs.Prelude.{◌≡◌, ◌≢◌, ℕ, suc, ◌+◌, ◌<◌, List, [], ◌∷◌}
+use Rattle.std.specs.Prelude.{◌≡◌, ◌≢◌, ℕ, ◌<◌, true, List, [], ◌∷◌}
 use Rattle.ja_ir.specs.declared.program.Parts.{Parts}
 use Rattle.ja_ir.specs.declared.method.Method.{Method}
 use Rattle.ja_ir.specs.declared.row.RowResult.TheVariants.{Argument}
 use Rattle.ja_ir.specs.declared.op.CallOp.{CallOp}
 use Rattle.ja_ir.specs.declared.op.Op.{Op}
-use Rattle.ja_ir.specs.declared.op.Op.TheVariants.{Call, Throw}
-use Rattle.ja_ir.specs.Lookup.{OpAt, Leads}
 use Rattle.ja_ir.specs.Operations.{arguments}
-use Rattle.ja_facts.specs.Slots.{Slot, Local, OnStack, Copies, CallAt, param_local, IsReferenceParam}
+use Rattle.ja_ir.specs.Params.{IsReferenceParam, param_local}
+use Rattle.ja_facts.specs.Slots.{Slot, Local, OnStack, Copies, argument, IsLeft}
 use Rattle.ja_facts.specs.Actions.{IsRun}
-use Rattle.ja_facts.specs.ClassSets.{Fact as ClassFact, Reached, CallsMethod, CallsAbstract, CallsLibrary, argument, IsSource, LeadsFrom}
-use Rattle.ja_facts.specs.Sharing.{Fact as HeapFact, PairAt, PairWithin, Effect, Root, Name, At, Statics, IsLive, Keeps, Stays, Takes, TakesStatic, Writes, WritesStatic, Makes, Answers, MeetsItself, ThrowsNew, IsNoCall, IsHandled, Begins, IsReference, IsRootOf, root_name, start_name}
+use Rattle.ja_facts.specs.ClassSets.{Fact as ClassFact, IsSource, LeadsFrom}
+use Rattle.ja_facts.specs.Crossings.{IsHandled, Enters, Crossing, Crosses}
+use Rattle.ja_facts.specs.Sharing.{Fact as HeapFact, PairAt, PairWithin, Effect, Root, Name, At, Statics, IsLive, Keeps, Stays, Takes, TakesStatic, Writes, WritesStatic, Makes, MeetsItself, IsNoCall, Begins, IsReference, IsRootOf, root_name, start_name, Step, LibraryCall, LibraryAnswer, LibraryEnds, RaisesNew, ThrowsTo}
 
 -- what reachability says
 pub data Fact : Type 0 where
@@ -22,106 +22,67 @@ pub data Fact : Type 0 where
 
 -- from these facts comes this fact, for the call graph that C tells and the pairs and effects that H tells
 pub data Rule (p : Parts) (C : ClassFact → Type 0) (H : HeapFact → Type 0) : List Fact → Fact → Type 0 where
-  -- where methods begin
+  -- where methods begin: those that the environment runs, and those that are entered
   run_begins : {m : ℕ} (method : Method) (s : Root) (k : ℕ) → IsRun p m → Begins p m method → IsReference method s → IsReferenceParam method k
       → Rule p C H [] (ReachAt m 0 (start_name method s) (Local (param_local method k)))
-  call_begins : {m i n under : ℕ} {call : CallOp} (method : Method) (s : Root) (k : ℕ) → CallAt p m i call under → C (Reached m i) → C (CallsMethod m i n)
-      → Begins p n method → IsRootOf call s → k < arguments call
+  entered_begins : {m i n count under : ℕ} (method : Method) (s : Root) (k : ℕ) → Enters p C m i n count under → Begins p n method → IsRootOf count s → k < count
       → Rule p C H (ReachAt m i (root_name under s) (argument under k) ∷ []) (ReachAt n 0 (start_name method s) (Local (param_local method k)))
-  -- a normal end of an operation that is no call
-  kept : {m i j height : ℕ} {op : Op} {a c : Name} {b d : Slot} → OpAt p m i op height → IsNoCall op → C (Reached m i) → Leads p m i j
-      → Keeps op height a c → Copies op height b d → Rule p C H (ReachAt m i a b ∷ []) (ReachAt m j c d)
-  copied : {m i j height : ℕ} {op : Op} {z x y : Slot} → OpAt p m i op height → IsNoCall op → C (Reached m i) → Leads p m i j
-      → Copies op height z x → Copies op height z y → x ≢ y → Rule p C H [] (ReachAt m j (At x) y)
-  made : {m i j height : ℕ} {op : Op} {r : Slot} → OpAt p m i op height → C (Reached m i) → Leads p m i j → Makes op height r
-      → Rule p C H [] (ReachAt m j (At r) r)
-  -- what a field or an element has
-  taken : {m i j height : ℕ} {op : Op} {x r b d : Slot} → OpAt p m i op height → C (Reached m i) → Leads p m i j → Takes op height x r
-      → Copies op height b d → Rule p C H (ReachAt m i (At x) b ∷ []) (ReachAt m j (At r) d)
-  taken_reached : {m i j height : ℕ} {op : Op} {x r : Slot} {a c : Name} → OpAt p m i op height → C (Reached m i) → Leads p m i j → Takes op height x r
-      → IsLive a → H (PairAt m i a (At x)) → Keeps op height a c → Rule p C H [] (ReachAt m j c r)
-  taken_itself : {m i j height : ℕ} {op : Op} {x r : Slot} → OpAt p m i op height → C (Reached m i) → Leads p m i j → Takes op height x r
-      → Rule p C H [] (ReachAt m j (At r) r)
-  static_taken : {m i j height : ℕ} {op : Op} {r b d : Slot} → OpAt p m i op height → C (Reached m i) → Leads p m i j → TakesStatic op height r
-      → Copies op height b d → Rule p C H (ReachAt m i Statics b ∷ []) (ReachAt m j (At r) d)
-  static_taken_reached : {m i j height : ℕ} {op : Op} {r : Slot} {a c : Name} → OpAt p m i op height → C (Reached m i) → Leads p m i j → TakesStatic op height r
-      → IsLive a → H (PairAt m i a Statics) → Keeps op height a c → Rule p C H [] (ReachAt m j c r)
-  static_taken_itself : {m i j height : ℕ} {op : Op} {r : Slot} → OpAt p m i op height → C (Reached m i) → Leads p m i j → TakesStatic op height r
-      → Rule p C H [] (ReachAt m j (At r) r)
-  -- a write
-  written : {m i j height : ℕ} {op : Op} {x v b d : Slot} {a c : Name} → OpAt p m i op height → C (Reached m i) → Leads p m i j → Writes op height x v
-      → Keeps op height a c → Copies op height b d → Rule p C H (ReachAt m i a x ∷ ReachAt m i (At v) b ∷ []) (ReachAt m j c d)
-  static_written : {m i j height : ℕ} {op : Op} {v b d : Slot} → OpAt p m i op height → C (Reached m i) → Leads p m i j → WritesStatic op height v
-      → Copies op height b d → Rule p C H (ReachAt m i (At v) b ∷ []) (ReachAt m j Statics d)
+  -- a normal end of an operation that is no call: what was reached is; two copies of one slot reach each other
+  kept : {m i j height : ℕ} {op : Op} {a c : Name} {b d : Slot} → Step p C m i j op height → IsNoCall op → Keeps op height a c → Copies op height b d
+      → Rule p C H (ReachAt m i a b ∷ []) (ReachAt m j c d)
+  copied : {m i j height : ℕ} {op : Op} {z x y : Slot} → Step p C m i j op height → IsNoCall op → Copies op height z x → Copies op height z y → x ≢ y
+      → Rule p C H [] (ReachAt m j (At x) y)
+  -- a new object
+  made : {m i j height : ℕ} {op : Op} {r : Slot} → Step p C m i j op height → Makes op height r → Rule p C H [] (ReachAt m j (At r) r)
+  -- what a field or an element has: it reaches what its object reaches, and is reached from what shares with its object
+  taken : {m i j height : ℕ} {op : Op} {x r b d : Slot} → Step p C m i j op height → Takes op height x r → Copies op height b d
+      → Rule p C H (ReachAt m i (At x) b ∷ []) (ReachAt m j (At r) d)
+  taken_reached : {m i j height : ℕ} {op : Op} {x r : Slot} {a c : Name} → Step p C m i j op height → Takes op height x r → IsLive a → H (PairAt m i a (At x)) → Keeps op height a c
+      → Rule p C H [] (ReachAt m j c r)
+  taken_itself : {m i j height : ℕ} {op : Op} {x r : Slot} → Step p C m i j op height → Takes op height x r → Rule p C H [] (ReachAt m j (At r) r)
+  static_taken : {m i j height : ℕ} {op : Op} {r b d : Slot} → Step p C m i j op height → TakesStatic op height r → Copies op height b d
+      → Rule p C H (ReachAt m i Statics b ∷ []) (ReachAt m j (At r) d)
+  static_taken_reached : {m i j height : ℕ} {op : Op} {r : Slot} {a c : Name} → Step p C m i j op height → TakesStatic op height r → IsLive a → H (PairAt m i a Statics) → Keeps op height a c
+      → Rule p C H [] (ReachAt m j c r)
+  static_taken_itself : {m i j height : ℕ} {op : Op} {r : Slot} → Step p C m i j op height → TakesStatic op height r → Rule p C H [] (ReachAt m j (At r) r)
+  -- a write: what reaches the object then reaches what the value reaches
+  written : {m i j height : ℕ} {op : Op} {x v b d : Slot} {a c : Name} → Step p C m i j op height → Writes op height x v → Keeps op height a c → Copies op height b d
+      → Rule p C H (ReachAt m i a x ∷ ReachAt m i (At v) b ∷ []) (ReachAt m j c d)
+  static_written : {m i j height : ℕ} {op : Op} {v b d : Slot} → Step p C m i j op height → WritesStatic op height v → Copies op height b d
+      → Rule p C H (ReachAt m i (At v) b ∷ []) (ReachAt m j Statics d)
   -- a library call: its effect
-  within : {m i under : ℕ} {call : CallOp} {a : Name} {b : Slot} → CallAt p m i call under → C (Reached m i) → C (CallsLibrary m i)
-      → Rule p C H (ReachAt m i a b ∷ []) (ReachWithin m i a b)
-  absorbed : {m i under : ℕ} {call : CallOp} {a : Name} {b : Slot} (x v : ℕ) → CallAt p m i call under → C (Reached m i) → C (CallsLibrary m i)
-      → IsSource call x call.row.effect → v < arguments call → IsLive a → H (PairAt m i a (At (argument under x)))
-      → Rule p C H (ReachAt m i (At (argument under v)) b ∷ []) (ReachWithin m i a b)
+  within : {m i under : ℕ} {call : CallOp} {a : Name} {b : Slot} → LibraryCall p C m i call under → Rule p C H (ReachAt m i a b ∷ []) (ReachWithin m i a b)
+  absorbed : {m i under : ℕ} {call : CallOp} {a : Name} {b : Slot} (x v : ℕ) → LibraryCall p C m i call under → IsSource call x call.row.effect → v < arguments call → IsLive a
+      → H (PairAt m i a (At (argument under x))) → Rule p C H (ReachAt m i (At (argument under v)) b ∷ []) (ReachWithin m i a b)
+  -- what is there after it, at its normal end and where it throws; and the exception, which is new
+  library_ends : {m i j left : ℕ} {a : Name} {b : Slot} → LibraryEnds p C m i j left → Stays left a → IsLeft left b → Rule p C H (ReachWithin m i a b ∷ []) (ReachAt m j a b)
+  library_throws : {m i j under : ℕ} {call : CallOp} → LibraryCall p C m i call under → IsHandled p m i j → Rule p C H [] (ReachAt m j (At (OnStack 0)) (OnStack 0))
   -- and its result
-  library_ends : {m i j height under : ℕ} {call : CallOp} {a c : Name} {b d : Slot} → CallAt p m i call under → C (Reached m i) → C (CallsLibrary m i) → Leads p m i j
-      → height ≡ under + arguments call → Keeps (Call call) height a c → Copies (Call call) height b d → Rule p C H (ReachWithin m i a b ∷ []) (ReachAt m j c d)
-  library_itself : {m i j under : ℕ} {call : CallOp} {r : Slot} → CallAt p m i call under → C (Reached m i) → C (CallsLibrary m i) → Leads p m i j
-      → Answers call under r → MeetsItself call.row.result → Rule p C H [] (ReachAt m j (At r) r)
-  library_argument : {m i j height under : ℕ} {call : CallOp} {r b d : Slot} → CallAt p m i call under → C (Reached m i) → C (CallsLibrary m i) → Leads p m i j
-      → Answers call under r → call.row.result ≡ Argument → 0 < arguments call → height ≡ under + arguments call → Copies (Call call) height b d
-      → Rule p C H (ReachWithin m i (At (argument under 0)) b ∷ []) (ReachAt m j (At r) d)
-  library_argument_reached : {m i j height under : ℕ} {call : CallOp} {r : Slot} {a c : Name} → CallAt p m i call under → C (Reached m i) → C (CallsLibrary m i) → Leads p m i j
-      → Answers call under r → call.row.result ≡ Argument → 0 < arguments call → height ≡ under + arguments call → Keeps (Call call) height a c
-      → Rule p C H (ReachWithin m i a (argument under 0) ∷ []) (ReachAt m j c r)
-  library_argument_itself : {m i j under : ℕ} {call : CallOp} {r : Slot} → CallAt p m i call under → C (Reached m i) → C (CallsLibrary m i) → Leads p m i j
-      → Answers call under r → call.row.result ≡ Argument → 0 < arguments call
-      → Rule p C H (ReachWithin m i (At (argument under 0)) (argument under 0) ∷ []) (ReachAt m j (At r) r)
-  library_member : {m i j height under : ℕ} {call : CallOp} {r b d : Slot} (k : ℕ) → CallAt p m i call under → C (Reached m i) → C (CallsLibrary m i) → Leads p m i j
-      → Answers call under r → LeadsFrom call k call.row.result → height ≡ under + arguments call → Copies (Call call) height b d
-      → Rule p C H (ReachWithin m i (At (argument under k)) b ∷ []) (ReachAt m j (At r) d)
-  library_member_reached : {m i j height under : ℕ} {call : CallOp} {r : Slot} {a c : Name} (k : ℕ) → CallAt p m i call under → C (Reached m i) → C (CallsLibrary m i) → Leads p m i j
-      → Answers call under r → LeadsFrom call k call.row.result → height ≡ under + arguments call → IsLive a → H (PairWithin m i a (At (argument under k)))
-      → Keeps (Call call) height a c → Rule p C H [] (ReachAt m j c r)
-  -- a call of a program method
-  call_kept : {m i j n height under : ℕ} {call : CallOp} {a c : Name} {b d : Slot} → CallAt p m i call under → C (Reached m i) → C (CallsMethod m i n) → Leads p m i j
-      → height ≡ under + arguments call → Keeps (Call call) height a c → Copies (Call call) height b d → Rule p C H (ReachAt m i a b ∷ []) (ReachAt m j c d)
-  affected_reaches : {m i j n height under : ℕ} {call : CallOp} {a c : Name} {b d : Slot} (s r : Root) → CallAt p m i call under → C (Reached m i) → C (CallsMethod m i n) → Leads p m i j
-      → IsRootOf call s → IsRootOf call r → height ≡ under + arguments call → IsLive a → H (Effect n s) → H (PairAt m i a (root_name under s))
-      → Keeps (Call call) height a c → Copies (Call call) height b d → Rule p C H (ReachAt m i (root_name under r) b ∷ []) (ReachAt m j c d)
-  result_reaches : {m i j n height under : ℕ} {call : CallOp} {y b d : Slot} (r : Root) → CallAt p m i call under → C (Reached m i) → C (CallsMethod m i n) → Leads p m i j
-      → IsRootOf call r → Answers call under y → height ≡ under + arguments call → Copies (Call call) height b d
-      → Rule p C H (ReachAt m i (root_name under r) b ∷ []) (ReachAt m j (At y) d)
-  result_reached : {m i j n height under : ℕ} {call : CallOp} {y : Slot} {a c : Name} (r : Root) → CallAt p m i call under → C (Reached m i) → C (CallsMethod m i n) → Leads p m i j
-      → IsRootOf call r → Answers call under y → height ≡ under + arguments call → IsLive a → H (PairAt m i a (root_name under r))
-      → Keeps (Call call) height a c → Rule p C H [] (ReachAt m j c y)
-  result_itself : {m i j n under : ℕ} {call : CallOp} {y : Slot} → CallAt p m i call under → C (Reached m i) → C (CallsMethod m i n) → Leads p m i j
-      → Answers call under y → Rule p C H [] (ReachAt m j (At y) y)
-  -- an exceptional end by a new object
-  throws_new : {m i j height : ℕ} {op : Op} → OpAt p m i op height → C (Reached m i) → IsHandled p m i j → ThrowsNew op
-      → Rule p C H [] (ReachAt m j (At (OnStack 0)) (OnStack 0))
-  throw_kept : {m i j height l : ℕ} {op : Op} {a : Name} → OpAt p m i op height → C (Reached m i) → IsHandled p m i j → ThrowsNew op
-      → Stays a → Rule p C H (ReachAt m i a (Local l) ∷ []) (ReachAt m j a (Local l))
-  abstract_throws : {m i j n under : ℕ} {call : CallOp} → CallAt p m i call under → C (Reached m i) → C (CallsAbstract m i n) → IsHandled p m i j
-      → Rule p C H [] (ReachAt m j (At (OnStack 0)) (OnStack 0))
-  abstract_throw_kept : {m i j n under l : ℕ} {call : CallOp} {a : Name} → CallAt p m i call under → C (Reached m i) → C (CallsAbstract m i n) → IsHandled p m i j
-      → Stays a → Rule p C H (ReachAt m i a (Local l) ∷ []) (ReachAt m j a (Local l))
-  library_throws : {m i j under : ℕ} {call : CallOp} → CallAt p m i call under → C (Reached m i) → C (CallsLibrary m i) → IsHandled p m i j
-      → Rule p C H [] (ReachAt m j (At (OnStack 0)) (OnStack 0))
-  library_throw_kept : {m i j under l : ℕ} {call : CallOp} {a : Name} → CallAt p m i call under → C (Reached m i) → C (CallsLibrary m i) → IsHandled p m i j
-      → Stays a → Rule p C H (ReachWithin m i a (Local l) ∷ []) (ReachAt m j a (Local l))
-  -- by the object that a throw names, which is a copy
-  thrown : {m i j k l : ℕ} → OpAt p m i Throw (suc k) → C (Reached m i) → IsHandled p m i j
-      → Rule p C H (ReachAt m i (At (OnStack k)) (Local l) ∷ []) (ReachAt m j (At (OnStack 0)) (Local l))
-  thrown_reached : {m i j k : ℕ} {a : Name} → OpAt p m i Throw (suc k) → C (Reached m i) → IsHandled p m i j → Stays a
-      → Rule p C H (ReachAt m i a (OnStack k) ∷ []) (ReachAt m j a (OnStack 0))
-  thrown_itself : {m i j k : ℕ} → OpAt p m i Throw (suc k) → C (Reached m i) → IsHandled p m i j
-      → Rule p C H (ReachAt m i (At (OnStack k)) (OnStack k) ∷ []) (ReachAt m j (At (OnStack 0)) (OnStack 0))
-  -- and by what a program method threw, which is like its result
-  callee_throw_kept : {m i j n under l : ℕ} {call : CallOp} {a : Name} → CallAt p m i call under → C (Reached m i) → C (CallsMethod m i n) → IsHandled p m i j
-      → Stays a → Rule p C H (ReachAt m i a (Local l) ∷ []) (ReachAt m j a (Local l))
-  callee_throw_affects : {m i j n under l : ℕ} {call : CallOp} {a : Name} (s r : Root) → CallAt p m i call under → C (Reached m i) → C (CallsMethod m i n) → IsHandled p m i j
-      → IsRootOf call s → IsRootOf call r → IsLive a → Stays a → H (Effect n s) → H (PairAt m i a (root_name under s))
-      → Rule p C H (ReachAt m i (root_name under r) (Local l) ∷ []) (ReachAt m j a (Local l))
-  callee_throw_reaches : {m i j n under l : ℕ} {call : CallOp} (r : Root) → CallAt p m i call under → C (Reached m i) → C (CallsMethod m i n) → IsHandled p m i j
-      → IsRootOf call r → Rule p C H (ReachAt m i (root_name under r) (Local l) ∷ []) (ReachAt m j (At (OnStack 0)) (Local l))
-  callee_throw_reached : {m i j n under : ℕ} {call : CallOp} {a : Name} (r : Root) → CallAt p m i call under → C (Reached m i) → C (CallsMethod m i n) → IsHandled p m i j
-      → IsRootOf call r → IsLive a → Stays a → H (PairAt m i a (root_name under r)) → Rule p C H [] (ReachAt m j a (OnStack 0))
-  callee_throw_itself : {m i j n under : ℕ} {call : CallOp} → CallAt p m i call under → C (Reached m i) → C (CallsMethod m i n) → IsHandled p m i j
-      → Rule p C H [] (ReachAt m j (At (OnStack 0)) (OnStack 0))
+  library_itself : {m i j under : ℕ} {call : CallOp} → LibraryAnswer p C m i j call under → MeetsItself call.row.result → Rule p C H [] (ReachAt m j (At (OnStack under)) (OnStack under))
+  library_argument : {m i j under : ℕ} {call : CallOp} {b : Slot} → LibraryAnswer p C m i j call under → call.row.result ≡ Argument → 0 < arguments call → IsLeft under b
+      → Rule p C H (ReachWithin m i (At (argument under 0)) b ∷ []) (ReachAt m j (At (OnStack under)) b)
+  library_argument_reached : {m i j under : ℕ} {call : CallOp} {a : Name} → LibraryAnswer p C m i j call under → call.row.result ≡ Argument → 0 < arguments call → Stays under a
+      → Rule p C H (ReachWithin m i a (argument under 0) ∷ []) (ReachAt m j a (OnStack under))
+  library_argument_itself : {m i j under : ℕ} {call : CallOp} → LibraryAnswer p C m i j call under → call.row.result ≡ Argument → 0 < arguments call
+      → Rule p C H (ReachWithin m i (At (argument under 0)) (argument under 0) ∷ []) (ReachAt m j (At (OnStack under)) (OnStack under))
+  library_member : {m i j under : ℕ} {call : CallOp} {b : Slot} (k : ℕ) → LibraryAnswer p C m i j call under → LeadsFrom call k call.row.result → IsLeft under b
+      → Rule p C H (ReachWithin m i (At (argument under k)) b ∷ []) (ReachAt m j (At (OnStack under)) b)
+  library_member_reached : {m i j under : ℕ} {call : CallOp} {a : Name} (k : ℕ) → LibraryAnswer p C m i j call under → LeadsFrom call k call.row.result → IsLive a
+      → H (PairWithin m i a (At (argument under k))) → Stays under a → Rule p C H [] (ReachAt m j a (OnStack under))
+  -- a way through a program method: what stays; what meets a root that the method changes reaches what any root reaches
+  crossing_kept : {m i n : ℕ} {a : Name} {b : Slot} (x : Crossing) → Crosses p C m i n x → Stays x.left a → IsLeft x.left b → Rule p C H (ReachAt m i a b ∷ []) (ReachAt m x.back a b)
+  affected_reaches : {m i n : ℕ} {a : Name} {b : Slot} (x : Crossing) (s r : Root) → Crosses p C m i n x → IsRootOf x.count s → IsRootOf x.count r → IsLive a → H (Effect n s)
+      → H (PairAt m i a (root_name x.under s)) → Stays x.left a → IsLeft x.left b → Rule p C H (ReachAt m i (root_name x.under r) b ∷ []) (ReachAt m x.back a b)
+  -- what is answered, a result or an exception: it reaches what any root reaches, and is reached from what meets any root, and from itself
+  answer_reaches : {m i n : ℕ} {b : Slot} (x : Crossing) (r : Root) → Crosses p C m i n x → IsRootOf x.count r → x.answers ≡ true → IsLeft x.left b
+      → Rule p C H (ReachAt m i (root_name x.under r) b ∷ []) (ReachAt m x.back (At (OnStack x.left)) b)
+  answer_reached : {m i n : ℕ} {a : Name} (x : Crossing) (r : Root) → Crosses p C m i n x → IsRootOf x.count r → x.answers ≡ true → IsLive a → H (PairAt m i a (root_name x.under r))
+      → Stays x.left a → Rule p C H [] (ReachAt m x.back a (OnStack x.left))
+  answer_itself : {m i n : ℕ} (x : Crossing) → Crosses p C m i n x → x.answers ≡ true → Rule p C H [] (ReachAt m x.back (At (OnStack x.left)) (OnStack x.left))
+  -- an exceptional end by a new object, before anything else is done
+  throws_new : {m i j : ℕ} → RaisesNew p C m i j → Rule p C H [] (ReachAt m j (At (OnStack 0)) (OnStack 0))
+  throw_kept : {m i j : ℕ} {a : Name} {b : Slot} → RaisesNew p C m i j → Stays 0 a → IsLeft 0 b → Rule p C H (ReachAt m i a b ∷ []) (ReachAt m j a b)
+  -- and by the object that a throw names, which is a copy
+  thrown : {m i j k : ℕ} {b : Slot} → ThrowsTo p C m i j k → IsLeft 0 b → Rule p C H (ReachAt m i (At (OnStack k)) b ∷ []) (ReachAt m j (At (OnStack 0)) b)
+  thrown_reached : {m i j k : ℕ} {a : Name} → ThrowsTo p C m i j k → Stays 0 a → Rule p C H (ReachAt m i a (OnStack k) ∷ []) (ReachAt m j a (OnStack 0))
+  thrown_itself : {m i j k : ℕ} → ThrowsTo p C m i j k → Rule p C H (ReachAt m i (At (OnStack k)) (OnStack k) ∷ []) (ReachAt m j (At (OnStack 0)) (OnStack 0))

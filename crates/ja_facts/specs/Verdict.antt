@@ -1,5 +1,5 @@
 -- The verdicts of sinks, and the text that reports them.
-use Rattle.std.specs.Prelude.{◌↔◌, ℕ, ◌+◌, ◌/◌, ◌%◌, ◌==◌, ◌&&◌, Bool, true, false, not, nat_le, List, [], ◌∷◌, ◌++◌, Option, Some, None, IsTrue, codes, count_by, flat_map, length, slice_get, if◌then◌else◌}
+use Rattle.std.specs.Prelude.{◌↔◌, ℕ, ◌+◌, ◌/◌, ◌%◌, ◌==◌, ◌&&◌, Bool, true, false, not, nat_le, List, [], ◌∷◌, ◌++◌, Option, Some, None, IsTrue, codes, count_by, flat_map, length, slice_get, slice_index_or, if◌then◌else◌}
 use Rattle.std.specs.Fmt.{decimal}
 use Rattle.ja_ir.specs.declared.program.Parts.{Parts}
 use Rattle.ja_ir.specs.declared.class.ClassInfo.{ClassInfo}
@@ -9,15 +9,15 @@ use Rattle.ja_ir.specs.declared.entry.Site.{Site}
 use Rattle.ja_ir.specs.Lookup.{instr_at}
 use Rattle.ja_facts.specs.Equations.{Fact, IsWarned}
 
--- there is one flag for each of these sites, in their order, and it is true exactly where the site is warned
-abbrev pub AreVerdictsOf : Parts → (Fact → Type 0) → List Site → List Bool → Type 0
+-- there is one flag for each of these sites, in their order, and it is true exactly where the site is warned by the set of facts of its category
+abbrev pub AreVerdictsOf : Parts → (S : (c : ℕ) → Fact → Type 0) → List Site → List Bool → Type 0
 AreVerdictsOf p S [] [] = Unit {0}
 AreVerdictsOf p S [] (flag ∷ flags) = ⊥
 AreVerdictsOf p S (site ∷ sites) [] = ⊥
-AreVerdictsOf p S (site ∷ sites) (flag ∷ flags) = (IsTrue flag ↔ IsWarned p S site) × AreVerdictsOf p S sites flags
+AreVerdictsOf p S (site ∷ sites) (flag ∷ flags) = (IsTrue flag ↔ IsWarned p (S site.category) site) × AreVerdictsOf p S sites flags
 
--- the flags are the verdicts of the program's sites by a set of facts
-abbrev pub AreVerdicts : Parts → (Fact → Type 0) → List Bool → Type 0
+-- the flags are the verdicts of the program's sites by a set of facts for each category
+abbrev pub AreVerdicts : Parts → (S : (c : ℕ) → Fact → Type 0) → List Bool → Type 0
 AreVerdicts p S flags = AreVerdictsOf p S p.sites flags
 
 -- a hexadecimal digit, in lower case
@@ -54,11 +54,16 @@ abbrev pub verdict_text : Bool → List ℕ
 verdict_text true = codes "warned"
 verdict_text false = codes "clean"
 
--- the line of a site: its verdict, its method, its pc and what it calls
+-- what the line of a site says of its category, by the names of the categories: nothing where these have no names
+abbrev pub category_text : (names : List (List ℕ)) → (c : ℕ) → List ℕ
+category_text [] c = []
+category_text (name ∷ names) c = codes " in " ++ printed (slice_index_or (name ∷ names) c [])
+
+-- the line of a site: its verdict, its method, its pc, what it calls, and its category
 abbrev pub site_line : Parts → Site → (warned : Bool) → List ℕ
 site_line p site warned =
     verdict_text warned ++ codes " " ++ method_text p (slice_get p.methods site.method.0) ++ codes " "
-    ++ pc_text (instr_at p site.method.0 site.index) ++ codes " " ++ printed site.target ++ codes "\n"
+    ++ pc_text (instr_at p site.method.0 site.index) ++ codes " " ++ printed site.target ++ category_text p.categories site.category ++ codes "\n"
 
 -- the lines of sites with their flags
 abbrev pub site_lines : Parts → List Site → List Bool → List ℕ
@@ -66,10 +71,15 @@ site_lines p [] flags = []
 site_lines p (site ∷ sites) [] = []
 site_lines p (site ∷ sites) (flag ∷ flags) = site_line p site flag ++ site_lines p sites flags
 
+-- the first line: which form of report it is, by the names of the categories: the second where they have names
+abbrev pub version_line : (names : List (List ℕ)) → List ℕ
+version_line [] = codes "julia 1\n"
+version_line (name ∷ names) = codes "julia 2\n"
+
 -- the lines before those of the sites
 abbrev pub head_lines : Parts → List ℕ
 head_lines p =
-    codes "julia 1\nclasses " ++ decimal (length p.classes) ++ codes "\nentries " ++ decimal (length p.entries)
+    version_line p.categories ++ codes "classes " ++ decimal (length p.classes) ++ codes "\nentries " ++ decimal (length p.entries)
     ++ codes "\nsinks " ++ decimal (length p.sites) ++ codes "\n"
 
 -- how many sites are warned

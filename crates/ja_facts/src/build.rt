@@ -1,6 +1,6 @@
 ghost use Rattle.std.specs.Prelude.{◌≡◌, ◌+◌, ◌<◌, false, map, replicate, IfOk};
 ghost use Rattle.ja_facts.specs.ClassTables.{token_count, no_members, throws_some, slots_before, throws_before, empty_slots_of, empty_thrown_of};
-ghost use Rattle.ja_facts.specs.Slots.{param_count};
+ghost use Rattle.ja_ir.specs.Params.{param_count};
 ghost use Rattle.ja_ir.specs.declared.method.Method.{Method};
 
 use crate::params::param_count;

@@ -27,6 +27,3 @@ pub use pairs::{Pairs, Reach};
 pub use params::param_count;
 pub use rows::Rows;
 pub use targets::Targets;
-
-#[cfg(test)]
-mod tests;

@@ -7,8 +7,8 @@ use Rattle.std.proofs.lemmas.Iterator.Adapters.{position_from-zero}
 use Rattle.std.proofs.lemmas.List.{length-take-le}
 use Rattle.std.proofs.lemmas.Option.{slice_get_within}
 use Rattle.std.proofs.lemmas.Slice.Eq.{bytes_eq-Decides}
-use Rattle.ja_index.specs.declared.numbers.NumbersByName.{NumbersByName}
-use Rattle.ja_index.specs.Numbers.{numbers_at, number_if}
+use Rattle.ja_base.specs.declared.index.NumbersByName.{NumbersByName}
+use Rattle.ja_base.specs.Index.{numbers_at, number_if}
 use Rattle.ja_ir.specs.declared.head.ClassHead.{ClassHead}
 use Rattle.ja_ir.specs.declared.head.HeadField.{HeadField}
 use Rattle.ja_ir.specs.declared.head.HeadMethod.{HeadMethod}

@@ -4,8 +4,8 @@ use Rattle.std.specs.Prelude.{Some, Contains, map, slice_get}
 use Rattle.std.proofs.lemmas.Option.{slice_get_within}
 use Rattle.ja_ir.specs.declared.head.ClassHead.{ClassHead}
 use Rattle.ja_ir.specs.declared.head.HeadMethod.{HeadMethod}
-use Rattle.ja_index.specs.Numbers.{numbers_at}
-use Rattle.ja_index.specs.declared.numbers.NumbersByName.{NumbersByName}
+use Rattle.ja_base.specs.Index.{numbers_at}
+use Rattle.ja_base.specs.declared.index.NumbersByName.{NumbersByName}
 use Rattle.ja_hier.specs.declared.starts.Member.TheVariants.{Method}
 use Rattle.ja_hier.specs.Faults.{Crosses, CrossesPackage, is_virtual}
 use Rattle.ja_hier.specs.Index.{HidesAt, IsIndexOf}

@@ -6,8 +6,8 @@ use Rattle.std.proofs.lemmas.List.Elements.{Contains-get_or}
 use Rattle.ja_ir.specs.declared.head.ClassHead.{ClassHead}
 use Rattle.ja_hier.specs.Index.{LeadsOn}
 use Rattle.ja_hier.specs.LookUps.{field_in, IsDeclaredAbove, FieldSearch, nowhere, here, further}
-use Rattle.ja_supers.specs.Supertypes.{supertypes_of, IsDirect, IsAtOrAbove}
-use Rattle.ja_supers.proofs.Falls.{first-step, step-above, direct-target}
+use Rattle.ja_supertypes.specs.Supertypes.{supertypes_of, IsDirect, IsAtOrAbove}
+use Rattle.ja_supertypes.proofs.Falls.{first-step, step-above, direct-target}
 
 pub none-from : (o : Option ℕ) → ((k : ℕ) → o ≡ Some k → ⊥) → o ≡ None
 none-from None h = refl

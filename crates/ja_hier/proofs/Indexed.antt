@@ -10,16 +10,16 @@ use Rattle.std.proofs.lemmas.Slice.Eq.{bytes_eq-Decides}
 use Rattle.ja_ir.specs.declared.head.ClassHead.{ClassHead}
 use Rattle.ja_ir.specs.declared.head.HeadField.{HeadField}
 use Rattle.ja_ir.specs.declared.head.HeadMethod.{HeadMethod}
-use Rattle.ja_index.specs.Numbers.{numbers_at, number_if}
-use Rattle.ja_index.specs.declared.numbers.NumbersByName.{NumbersByName}
+use Rattle.ja_base.specs.Index.{numbers_at, number_if}
+use Rattle.ja_base.specs.declared.index.NumbersByName.{NumbersByName}
 use Rattle.ja_hier.specs.declared.skip.Skip.{Skip}
 use Rattle.ja_hier.specs.declared.starts.Member.{Member}
 use Rattle.ja_hier.specs.declared.starts.Member.TheVariants.{Field, Method}
 use Rattle.ja_hier.specs.Index.{member_names, Covers, IsIndexOf, IsNoted}
 use Rattle.ja_hier.specs.Members.{count_of}
 use Rattle.ja_hier.specs.LookUps.{fields_of, methods_of, field_in, method_in, skips}
-use Rattle.ja_supers.specs.Supertypes.{AreSupertypes}
-use Rattle.ja_supers.proofs.Falls.{supertype-target}
+use Rattle.ja_supertypes.specs.Supertypes.{AreSupertypes}
+use Rattle.ja_supertypes.proofs.Falls.{supertype-target}
 use Rattle.ja_hier.proofs.Numbers.{no-field, no-method}
 
 pub contains-map : {X : Type 0} (f : X → List ℕ) (xs : List X) (x : X) → Contains xs x → Contains (map f xs) (f x)

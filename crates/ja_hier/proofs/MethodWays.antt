@@ -2,19 +2,19 @@
 use Rattle.std.proofs.Common.{◌≡◌, ℕ, zero, suc, ◌<◌, ◌⊎◌, inl, inr, true, List, [], refl, sym, ap, ◌∙◌, subst, arith}
 use Rattle.std.specs.Prelude.{Option, Some, None, Contains, is_some}
 use Rattle.ja_ir.specs.declared.head.ClassHead.{ClassHead}
-use Rattle.ja_index.specs.Numbers.{numbers_at}
-use Rattle.ja_index.specs.declared.numbers.NumbersByName.{NumbersByName}
+use Rattle.ja_base.specs.Index.{numbers_at}
+use Rattle.ja_base.specs.declared.index.NumbersByName.{NumbersByName}
 use Rattle.ja_hier.specs.declared.skip.Skip.TheVariants.{NoDefault}
 use Rattle.ja_hier.specs.declared.starts.Member.TheVariants.{Method}
 use Rattle.ja_hier.proofs.Indexed.{method-noted}
 use Rattle.ja_hier.specs.Index.{Covers, Inherits, IsBelow, IsSomePlace, IsIndexOf, IsSomeCandidate, Overrides, IsOverridden, IsSomeLeft, IsOtherLeft, IsLeftNumber}
 use Rattle.ja_hier.specs.LookUps.{method_in, answer_at, IsLeft, FindsDefault, one, nothing_left, several, ClassSearch, declared as declared-in, inherited, at_end, Finds, in_no_class}
 use Rattle.ja_ir.specs.declared.class.MethodAt.TheVariants.{Library as AtLibrary}
-use Rattle.ja_supers.specs.Faults.{IsCyclic, IsNowhere}
-use Rattle.ja_supers.specs.Supertypes.{superclass_of, IsSuperclass, next, further, IsSupertype, direct, through, IsSuperinterface, declared}
-use Rattle.ja_supers.proofs.Falls.{superclass-direct, interface-direct}
-use Rattle.ja_supers.proofs.Up.{superclass-supertype}
-use Rattle.ja_supers.proofs.Ranks.{rank_of, rank-falls}
+use Rattle.ja_supertypes.specs.Faults.{IsCyclic, IsNowhere}
+use Rattle.ja_supertypes.specs.Supertypes.{superclass_of, IsSuperclass, next, further, IsSupertype, direct, through, IsSuperinterface, declared}
+use Rattle.ja_supertypes.proofs.Falls.{superclass-direct, interface-direct}
+use Rattle.ja_supertypes.proofs.Up.{superclass-supertype}
+use Rattle.ja_supertypes.proofs.Ranks.{rank_of, rank-falls}
 use Rattle.ja_hier.specs.declared.skip.Skip.{Skip}
 use Rattle.ja_hier.proofs.FieldWays.{none-from}
 use Rattle.ja_hier.proofs.Lowest.{IsNotLower}

@@ -9,7 +9,7 @@ use Rattle.ja_hier.specs.declared.field_at.FieldAt.TheVariants.{Program}
 use Rattle.ja_hier.specs.declared.skip.Skip.{Skip}
 use Rattle.ja_hier.specs.declared.skip.Skip.TheVariants.{NoDefault}
 use Rattle.ja_hier.specs.LookUps.{field_in, field_number, FieldSearch, nowhere, here, further, FindsField, in_program, in_library, missing, method_in, method_number, answer_at, ClassSearch, declared, inherited, at_end, FindsDefault, one, nothing_left, several, Finds, in_class, as_default, in_no_class}
-use Rattle.ja_supers.specs.Supertypes.{supertypes_of, superclass_of}
+use Rattle.ja_supertypes.specs.Supertypes.{supertypes_of, superclass_of}
 
 none-is-not-some : (o : Option ℕ) (k : ℕ) → o ≡ None → o ≡ Some k → ⊥
 none-is-not-some o k e f = cc (e, f)

@@ -4,15 +4,15 @@ use Rattle.std.specs.Prelude.{Option, Some, None, Contains, slice_get}
 use Rattle.std.proofs.lemmas.Option.{get_or_from_slice_get}
 use Rattle.std.proofs.lemmas.List.Elements.{Contains-get_or}
 use Rattle.ja_ir.specs.declared.head.ClassHead.{ClassHead}
-use Rattle.ja_index.specs.Numbers.{numbers_at}
-use Rattle.ja_index.specs.declared.numbers.NumbersByName.{NumbersByName}
+use Rattle.ja_base.specs.Index.{numbers_at}
+use Rattle.ja_base.specs.declared.index.NumbersByName.{NumbersByName}
 use Rattle.ja_hier.specs.declared.starts.Member.TheVariants.{Field}
 use Rattle.ja_hier.specs.Index.{AreForks, Covers, IsBelow, IsIndexOf, IsNowhereOn, IsStraight, stays, upwards, Meets}
 use Rattle.ja_hier.specs.LookUps.{field_in, field_number, IsDeclaredAbove, FieldSearch, here, further}
-use Rattle.ja_supers.specs.Faults.{IsCyclic, IsNowhere}
-use Rattle.ja_supers.specs.Supertypes.{supertypes_of, IsAtOrAbove, IsDirect, IsSupertype, direct, through}
-use Rattle.ja_supers.proofs.Falls.{first-step, step-above, supertype-target}
-use Rattle.ja_supers.proofs.Ranks.{rank_of, rank-falls}
+use Rattle.ja_supertypes.specs.Faults.{IsCyclic, IsNowhere}
+use Rattle.ja_supertypes.specs.Supertypes.{supertypes_of, IsAtOrAbove, IsDirect, IsSupertype, direct, through}
+use Rattle.ja_supertypes.proofs.Falls.{first-step, step-above, supertype-target}
+use Rattle.ja_supertypes.proofs.Ranks.{rank_of, rank-falls}
 use Rattle.ja_hier.proofs.FieldWays.{none-from}
 use Rattle.ja_hier.proofs.Indexed.{field-noted}
 use Rattle.ja_hier.proofs.Lowest.{IsNotLower}

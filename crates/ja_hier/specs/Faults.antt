@@ -6,10 +6,10 @@ use Rattle.ja_ir.specs.declared.head.HeadMethod.{HeadMethod}
 use Rattle.ja_ir.specs.Lookup.{has_flag, is_static}
 use Rattle.ja_hier.specs.declared.fault.HierFault.{HierFault}
 use Rattle.ja_hier.specs.declared.fault.HierFault.TheVariants.{PlatformClass, Duplicate, Cycle, CrossPackage, Memory}
-use Rattle.ja_supers.specs.declared.fault.ClassFault.{ClassFault}
-use Rattle.ja_supers.specs.declared.fault.ClassFault.TheVariants.{PlatformClass as InPlatform, Duplicate as AgainDeclared, Cycle as InCycle, Memory as NoMemory}
-use Rattle.ja_supers.specs.Faults.{IsPlatform, IsDuplicate, IsCyclic, IsFirst, IsNowhere}
-use Rattle.ja_supers.specs.Supertypes.{IsSuperclass}
+use Rattle.ja_supertypes.specs.declared.fault.ClassFault.{ClassFault}
+use Rattle.ja_supertypes.specs.declared.fault.ClassFault.TheVariants.{PlatformClass as InPlatform, Duplicate as AgainDeclared, Cycle as InCycle, Memory as NoMemory}
+use Rattle.ja_supertypes.specs.Faults.{IsPlatform, IsDuplicate, IsCyclic, IsFirst, IsNowhere}
+use Rattle.ja_supertypes.specs.Supertypes.{IsSuperclass}
 
 -- the package of a class: its name up to the last `/`, so each byte after which one comes (JVM specification 5.3)
 abbrev pub package_of : (name : List ℕ) → List ℕ

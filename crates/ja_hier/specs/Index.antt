@@ -1,12 +1,12 @@
 -- What the tables of a hierarchy hold, and what look-ups by them find on the way. Only private functions cite this.
 use Rattle.std.specs.Prelude.{◌≡◌, ℕ, suc, ◌<◌, ◌⊎◌, ◌&&◌, Bool, true, false, not, List, [], ◌∷◌, ◌++◌, Option, Some, None, Contains, bytes_eq, length, map, slice_get, slice_index_or, sum_by, take, if◌then◌else◌}
-use Rattle.ja_index.specs.declared.numbers.NumbersByName.{NumbersByName}
-use Rattle.ja_index.specs.Numbers.{numbers_at, number_if}
+use Rattle.ja_base.specs.declared.index.NumbersByName.{NumbersByName}
+use Rattle.ja_base.specs.Index.{numbers_at, number_if}
 use Rattle.ja_ir.specs.declared.head.ClassHead.{ClassHead}
 use Rattle.ja_ir.specs.declared.head.HeadField.{HeadField}
 use Rattle.ja_ir.specs.declared.head.HeadMethod.{HeadMethod}
-use Rattle.ja_supers.specs.Faults.{AreClasses}
-use Rattle.ja_supers.specs.Supertypes.{supertypes_of, IsAtOrAbove, IsDirect, IsSuperclass, IsSuperinterface, IsSupertype}
+use Rattle.ja_supertypes.specs.Faults.{AreClasses}
+use Rattle.ja_supertypes.specs.Supertypes.{supertypes_of, IsAtOrAbove, IsDirect, IsSuperclass, IsSuperinterface, IsSupertype}
 use Rattle.ja_hier.specs.declared.tables.Tables.{Tables}
 use Rattle.ja_hier.specs.declared.skip.Skip.{Skip}
 use Rattle.ja_hier.specs.declared.skip.Skip.TheVariants.{NoDefault}

@@ -13,7 +13,7 @@ use Rattle.ja_hier.specs.declared.skip.Skip.TheVariants.{NoMethod, NotVirtual, N
 use Rattle.ja_hier.specs.declared.starts.Member.TheVariants.{Field, Method}
 use Rattle.ja_hier.specs.Members.{count_of}
 use Rattle.ja_hier.specs.Faults.{is_virtual}
-use Rattle.ja_supers.specs.Supertypes.{supertypes_of, superclass_of, IsAtOrAbove, IsSuperinterface, HasLibrarySupertype}
+use Rattle.ja_supertypes.specs.Supertypes.{supertypes_of, superclass_of, IsAtOrAbove, IsSuperinterface, HasLibrarySupertype}
 
 -- the fields that a class declares
 abbrev pub fields_of : Option ClassHead → List HeadField

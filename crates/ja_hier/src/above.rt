@@ -1,9 +1,9 @@
 //! The choice among classes that declare a member, by their bits.
 ghost use Rattle.std.specs.Prelude.{ℕ, ◌<◌, ◌↔◌, length, Contains, IfSome, IsTrue};
 ghost use Rattle.ja_hier.specs.Index.{Covers, IsBelow};
-ghost use Rattle.ja_supers.specs.Supertypes.{IsSuperclass, IsSupertype};
+ghost use Rattle.ja_supertypes.specs.Supertypes.{IsSuperclass, IsSupertype};
 
-use ja_supers::Classes;
+use ja_supertypes::Classes;
 
 /// Where to look for those supertypes of a class that are listed: in the list, or in all its
 /// supertypes, where these are fewer.

@@ -1,7 +1,7 @@
 ghost use Rattle.std.specs.Prelude.{◌≡◌, ℕ, ◌<◌, ◌↔◌, Some, codes, is_some, length, map, slice_get, IsTrue, IfErr, IfSome, IfNone, OnOk};
 ghost use Rattle.ja_ir.specs.declared.head.HeadMethod.{HeadMethod};
 ghost use Rattle.ja_hier.specs.declared.starts.Member.TheVariants.{Method};
-ghost use Rattle.ja_supers.specs.Faults.{IsFirst, IsNowhere};
+ghost use Rattle.ja_supertypes.specs.Faults.{IsFirst, IsNowhere};
 ghost use Rattle.ja_hier.specs.Faults.{IsFault, IsCrossing, Hides, Crosses, CrossesPackage};
 ghost use Rattle.ja_hier.specs.Index.{first_place, is_hidden, member_names, HasPlaces, HidesAt, IsHiddenAmong, IsIndexed};
 
@@ -10,8 +10,7 @@ use crate::above::fewer;
 use crate::flags::{is_package_private, is_virtual};
 use crate::package::same_package;
 use crate::tables::Tables;
-use ja_base::Name;
-use ja_index::NumbersByName;
+use ja_base::{Name, NumbersByName};
 use ja_ir::{ClassHead, HeadMethod, HeadMethods};
 
 /// Refuses a method that redeclares a package-private method of a superclass in another package.

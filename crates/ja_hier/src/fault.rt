@@ -2,7 +2,7 @@ ghost use Rattle.std.specs.Prelude.{◌≡◌};
 ghost use Rattle.ja_hier.specs.declared.fault.HierFault.TheVariants.{Memory};
 ghost use Rattle.ja_hier.specs.Faults.{of_classes};
 
-use ja_supers::ClassFault;
+use ja_supertypes::ClassFault;
 
 /// Why classes are no hierarchy. A class is named by its place in the list, a method by its place in its
 /// class.

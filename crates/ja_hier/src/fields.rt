@@ -1,7 +1,7 @@
 ghost use Rattle.std.specs.Prelude.{◌≡◌, ℕ, ◌<◌, ◌↔◌, ◌+◌, [], ◌∷◌, Some, None, length, slice_get, IsTrue, IfSome, IfNone};
-ghost use Rattle.ja_index.specs.Numbers.{numbers_at};
+ghost use Rattle.ja_base.specs.Index.{numbers_at};
 ghost use Rattle.ja_hier.specs.Index.{first_place, is_field, Covers, DeclaresFor, IsBetween, IsIndexed, IsLowest, IsNowhereOn, IsStraight, LeadsOn, Meets};
-ghost use Rattle.ja_supers.specs.Supertypes.{IsSupertype};
+ghost use Rattle.ja_supertypes.specs.Supertypes.{IsSupertype};
 ghost use Rattle.ja_hier.specs.LookUps.{field_in, field_number, FieldSearch, FindsField, IsDeclaredAbove};
 
 use crate::FieldAt;
@@ -10,7 +10,7 @@ use crate::hier::is_at_or_above;
 use crate::tables::Tables;
 use ja_base::{FieldId, Name};
 use ja_ir::HeadFields;
-use ja_supers::Classes;
+use ja_supertypes::Classes;
 
 /// Whether there is a field of this descriptor at a place.
 fn is_field_at(fields: &HeadFields, desc: &Name, place: u64) -> bool

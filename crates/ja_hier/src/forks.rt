@@ -1,11 +1,11 @@
 //! Ways up the supertypes of a class on which there is no choice.
 ghost use Rattle.std.specs.Prelude.{◌≡◌, ℕ, ◌∷◌, [], ◌<◌, ◌≤◌, ◌^◌, length, IfOk, IfSome};
 ghost use Rattle.ja_hier.specs.Index.{AreForks, IsStraight};
-ghost use Rattle.ja_supers.specs.Faults.{AreClasses};
-ghost use Rattle.ja_supers.specs.Supertypes.{supertypes_of};
+ghost use Rattle.ja_supertypes.specs.Faults.{AreClasses};
+ghost use Rattle.ja_supertypes.specs.Supertypes.{supertypes_of};
 
 use ja_base::{Memory, Numbers, Seq};
-use ja_supers::Classes;
+use ja_supertypes::Classes;
 use std::alloc::Global;
 
 /// For each class the first at or above it that has no or several direct supertypes.

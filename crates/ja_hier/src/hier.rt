@@ -1,12 +1,13 @@
-ghost use Rattle.std.specs.Prelude.{◌≡◌, ℕ, List, ◌<◌, ◌↔◌, Some, None, length, IsTrue, IfOk, IfErr, IfSome, IfNone, OnOk};
+ghost use Rattle.std.specs.Prelude.{◌≡◌, ℕ, List, ◌<◌, ◌↔◌, Some, None, length, sum_by, take, IsTrue, IfOk, IfErr, IfSome, IfNone, OnOk};
 ghost use Rattle.ja_hier.specs.declared.skip.Skip.TheVariants.{NoMethod, NotVirtual};
 ghost use Rattle.ja_hier.specs.Faults.{IsFault, IsHierarchy};
 ghost use Rattle.ja_hier.specs.Index.{IsIndexed};
-ghost use Rattle.ja_hier.specs.Members.{IsNumbered};
+ghost use Rattle.ja_hier.specs.declared.starts.Member.TheVariants.{Method};
+ghost use Rattle.ja_hier.specs.Members.{count_of, IsNumbered};
 ghost use Rattle.ja_hier.specs.LookUps.{FindsField, Finds};
-ghost use Rattle.ja_supers.specs.LibraryTypes.{AreLibraryTypes, IsNearest};
-ghost use Rattle.ja_supers.specs.Supertypes as supertypes;
-ghost use Rattle.ja_supers.specs.Supertypes.{superclass_of, AreSupertypes, IsAtOrAbove, IsSuperclass};
+ghost use Rattle.ja_supertypes.specs.LibraryTypes.{AreLibraryTypes, IsNearest};
+ghost use Rattle.ja_supertypes.specs.Supertypes as supertypes;
+ghost use Rattle.ja_supertypes.specs.Supertypes.{superclass_of, AreSupertypes, IsAtOrAbove, IsSuperclass};
 
 use crate::crossing::check_packages;
 use crate::forks::forks;
@@ -17,7 +18,7 @@ use crate::tables::Tables;
 use crate::{FieldAt, HierFault, fields, methods};
 use ja_base::{ClassId, Name, Names, Numbers, Seq};
 use ja_ir::{ClassHead, MethodAt};
-use ja_supers::{Classes, classes_of};
+use ja_supertypes::{Classes, classes_of};
 use std::alloc::Global;
 use std::marker::Model;
 
@@ -162,6 +163,15 @@ impl Hier {
         ensures { AreLibraryTypes self.now c.0 result.now }
     {
         self.tables.classes.library_types(c.0)
+    }
+
+    /// The number of the methods that the classes before one declare, which is that of its first method. It
+    /// takes no memory.
+    pub fn first_method(&self, c: ClassId) -> u64
+        requires { c.0 < length self.now }
+        ensures { result ≡ sum_by (count_of Method) (take c.0 self.now) }
+    {
+        methods::first_of(&self.tables, c.0)
     }
 
     /// Whether class `b` is class `a` or a proper supertype of it. It takes no memory.

@@ -4,8 +4,7 @@ ghost use Rattle.ja_hier.specs.Index.{member_names, ArePlaces, HasPlaces, IsInde
 ghost use Rattle.ja_hier.specs.Members.{count_of};
 
 use crate::starts::{Member, count_of};
-use ja_base::{Memory, Name, Seq};
-use ja_index::NumbersByName;
+use ja_base::{Memory, Name, NumbersByName, Seq};
 use ja_ir::ClassHead;
 use std::alloc::Global;
 

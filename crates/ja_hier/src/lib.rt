@@ -16,8 +16,6 @@ mod package;
 mod skip;
 mod starts;
 mod tables;
-#[cfg(test)]
-mod tests;
 
 pub use fault::HierFault;
 pub use field_at::FieldAt;

@@ -1,8 +1,10 @@
-ghost use Rattle.std.specs.Prelude.{◌≡◌, ℕ, ◌<◌, ◌↔◌, false, Some, None, length, slice_get, IsTrue, IfSome, IfNone};
-ghost use Rattle.ja_index.specs.Numbers.{numbers_at};
+ghost use Rattle.std.specs.Prelude.{◌≡◌, ℕ, ◌<◌, ◌↔◌, false, Some, None, length, slice_get, sum_by, take, IsTrue, IfSome, IfNone};
+ghost use Rattle.ja_hier.specs.declared.starts.Member.TheVariants.{Method};
+ghost use Rattle.ja_hier.specs.Members.{count_of};
+ghost use Rattle.ja_base.specs.Index.{numbers_at};
 ghost use Rattle.ja_hier.specs.declared.skip.Skip.TheVariants.{NoDefault};
 ghost use Rattle.ja_hier.specs.Index.{first_place, is_method, Covers, Inherits, IsLowest, IsIndexed, IsSomeCandidate, IsSomePlace, IsOverridden, Overrides, IsSomeLeft, IsOtherLeft, IsLeftNumber};
-ghost use Rattle.ja_supers.specs.Supertypes.{IsSuperclass};
+ghost use Rattle.ja_supertypes.specs.Supertypes.{IsSuperclass};
 ghost use Rattle.ja_hier.specs.LookUps.{method_in, method_number, answer_at, ClassSearch, FindsDefault, Finds};
 
 use crate::above::{fewer, is_below};
@@ -46,6 +48,15 @@ fn method_in(tables: &Tables, skip: Skip, class: u32, name: &Name, desc: &Name) 
     let methods = &tables.classes.heads().at(class as u64).methods;
     let places = tables.methods.places.at(class as u64).at(name);
     first_method(methods, places, skip, desc)
+}
+
+/// The number of the methods that the classes before one declare.
+pub(crate) fn first_of(tables: &Tables, class: u32) -> u64
+    requires indexed { IsIndexed tables.now }
+    requires inside { class < length tables.now.classes }
+    ensures { result ≡ sum_by (count_of Method) (take class tables.now.classes) }
+{
+    *tables.method_starts.at(class as u64)
 }
 
 /// The number of a method that a class declares at a place.

@@ -1,6 +1,6 @@
 use crate::index::MembersByName;
 use ja_base::Numbers;
-use ja_supers::Classes;
+use ja_supertypes::Classes;
 
 /// The tables behind a hierarchy.
 #[derive(Drop)]

@@ -1,73 +1,14 @@
 use super::*;
-use ja_base::{Bytes, File, Files, Name, Numbers};
+use ja_base::Name;
 use std::alloc::Global;
 use std::fs::{self, Files as _};
 use std::io::Write;
 use std::test::Fail;
 use std::{io, process};
 
-fn numbers(alloc: Global, of: &[u64]) -> Result<Numbers, Fail> {
-    Ok(Numbers::from_vec(of.to_vec(alloc)?))
-}
-
-fn file(alloc: Global, name: &str, bytes: &[u8]) -> Result<File, Fail> {
-    Ok(File {
-        name: Name::of(alloc, name.as_bytes())?,
-        bytes: Bytes::from_vec(bytes.to_vec(alloc)?),
-    })
-}
-
 // The path of what stands below a directory.
 fn below(alloc: Global, root: &str, path: &str) -> Result<String, Fail> {
     Ok(format!(in alloc; "{root}/{path}")?)
-}
-
-#[test]
-fn folder_in_memory_fails_by_number(rt: HostRuntime) -> Result<(), Fail> {
-    let alloc = rt.alloc();
-    let mut files = Files::new(alloc);
-    files.push(file(alloc, "A.class", &[1, 2, 3])?)?;
-    files.push(file(alloc, "B.class", &[4])?)?;
-    assert!(rt; has_distinct_names(files.as_slice()));
-    let fails = numbers(alloc, &[2, 5])?;
-    let mut folder = MemFolder::new(Name::of(alloc, b"d")?, files, fails);
-    let fault = Err(FolderFail::Fault);
-    let absent = Err(FolderFail::Absent);
-    let table = [
-        (b"d".as_slice(), Ok(()), 0),
-        (b"d".as_slice(), fault, 1),
-        (b"e".as_slice(), absent, 1),
-        (b"dd".as_slice(), absent, 1),
-        (b"e".as_slice(), fault, 2),
-        (b"d".as_slice(), Ok(()), 2),
-    ];
-    for (dir, want, faults) in table {
-        let dir = Name::of(alloc, dir)?;
-        assert_eq!(rt; folder.enter(alloc, &dir), want);
-        assert_eq!(rt; folder.faults(), faults);
-    }
-    let names = folder.list(alloc)?.into_vec();
-    assert_eq!(rt; names.len(), 2);
-    assert_eq!(rt; names[0].bytes(), b"A.class".as_slice());
-    assert_eq!(rt; names[1].bytes(), b"B.class".as_slice());
-    Ok(())
-}
-
-#[test]
-fn sink_in_memory_fails_by_number(rt: HostRuntime) -> Result<(), Fail> {
-    let alloc = rt.alloc();
-    let mut out = MemOut::new(alloc, 3, 5, numbers(alloc, &[2])?)?;
-    for (want, faults) in [
-        (Ok(3), 0),
-        (Err(OutFault), 1),
-        (Ok(2), 1),
-        (Err(OutFault), 2),
-    ] {
-        assert_eq!(rt; out.write(b"abcd"), want);
-        assert_eq!(rt; out.faults(), faults);
-    }
-    assert_eq!(rt; out.written(), b"abcab".as_slice());
-    Ok(())
 }
 
 // Files with three bytes and symbolic links, at places that a walk must find or pass over.

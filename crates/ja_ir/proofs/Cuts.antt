@@ -7,8 +7,8 @@ use Rattle.ja_ir.specs.declared.block.Block.{Block}
 use Rattle.ja_ir.specs.declared.method.Method.{Method}
 use Rattle.ja_ir.specs.declared.method.Instr.{Instr}
 use Rattle.ja_ir.specs.declared.method.Handler.{Handler}
-use Rattle.ja_ir.specs.Blocks.{IsLeader, begins, branched, handles, follows, IsBlock, AreBlocks, StaysInside}
-use Rattle.ja_ir.specs.Leaders.{with_code, with_handlers, blocks_from, blocks_after}
+use Rattle.ja_ir.specs.Blocks.{IsLeader, begins, branched, handles, initializes, follows, IsBlock, AreBlocks, StaysInside}
+use Rattle.ja_ir.specs.InnerLeaders.{with_code, with_handlers, blocks_from, blocks_after}
 use Rattle.ja_ir.proofs.Marks.{has, Adds, Asks, CodeAsks, LedTo, code-adds, handlers-add}
 
 -- the place of an instruction that there is
@@ -184,7 +184,8 @@ marked-length : (m : Method) → StaysInside m → length (marked m) ≡ length 
 marked-length m inside = (all-handlers-add m inside).size ∙ ((all-code-adds m inside).size ∙ length-replicate (length m.code) false)
 
 asked-leader : (m : Method) (k : ℕ) (x : Instr) (j : ℕ) → slice_get m.code k ≡ Some x → Asks (0 + k) x j → IsLeader m j
-asked-leader m k x j at (inl (b, c)) = branched k x at b c
+asked-leader m k x j at (inl (inl (b, c))) = branched k x at b c
+asked-leader m k x j at (inl (inr (b, e))) = subst (λ (n : ℕ). IsLeader m n) (let q : k ≡ j = omega arith in q) (initializes x at b)
 asked-leader m k x j at (inr (b, e)) = follows k x at b (omega arith)
 
 marked-sound : (m : Method) → StaysInside m → (j : ℕ) → has (marked m) j ≡ true → IsLeader m j
@@ -199,7 +200,9 @@ marked-sound m inside j h = elim ((all-handlers-add m inside).only j h) [
 marked-complete : (m : Method) → StaysInside m → (j : ℕ) → 0 < j → j < length m.code → IsLeader m j → has (marked m) j ≡ true
 marked-complete m inside j pos lt begins = absurd (omega arith)
 marked-complete m inside j pos lt (branched i x at b c) =
-    (all-handlers-add m inside).kept j ((all-code-adds m inside).added j (omega (arith, length-replicate (length m.code) false)) (i, x, at, inl (b, c)))
+    (all-handlers-add m inside).kept j ((all-code-adds m inside).added j (omega (arith, length-replicate (length m.code) false)) (i, x, at, inl (inl (b, c))))
+marked-complete m inside j pos lt (initializes x at b) =
+    (all-handlers-add m inside).kept j ((all-code-adds m inside).added j (omega (arith, length-replicate (length m.code) false)) (j, x, at, inl (inr (b, omega arith))))
 marked-complete m inside j pos lt (handles k h at e) =
     (all-handlers-add m inside).added j (omega (arith, (all-code-adds m inside).size, length-replicate (length m.code) false)) (k, h, at, e)
 marked-complete m inside j pos lt (follows i x at b e) =

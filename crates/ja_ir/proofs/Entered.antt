@@ -6,8 +6,8 @@ use Rattle.std.proofs.lemmas.Bool.{eqb-true, eq-eqb, ltb-true, lt-ltb}
 use Rattle.std.proofs.lemmas.Slice.Eq.{bytes_eq-Decides}
 use Rattle.ja_ir.specs.declared.program.Parts.{Parts}
 use Rattle.ja_ir.specs.declared.method.Method.{Method}
-use Rattle.ja_ir.specs.Lookup.{is_static, is_member}
-use Rattle.ja_ir.specs.Entries.{is_plain, is_initializer, is_constructor, constructor_of, IsPlain, Constructs, IsConstructorOf}
+use Rattle.ja_ir.specs.Lookup.{is_member}
+use Rattle.ja_ir.specs.Entries.{is_plain, is_constructor, constructor_of, IsPlain, Constructs, IsConstructorOf}
 
 and-both : (a b : Bool) → a ≡ true → b ≡ true → (a && b) ≡ true
 and-both true b e f = f
@@ -34,12 +34,6 @@ from-plain : (name : List ℕ) (m : Method) → IsPlain name m → is_plain name
 from-plain name m x =
     and-both (bytes_eq m.name name) (bytes_eq m.desc (codes "()V") && nat_lt 0 (length m.code)) ((bytes_eq-Decides m.name name).1 x.is_name)
     (and-both (bytes_eq m.desc (codes "()V")) (nat_lt 0 (length m.code)) ((bytes_eq-Decides m.desc (codes "()V")).1 x.is_desc) (lt-ltb 0 (length m.code) x.code))
-
-pub initializer-says : (m : Method) → (is_initializer m ≡ true) ↔ ((is_static m.flags ≡ true) × IsPlain (codes "<clinit>") m)
-initializer-says m = (
-  λ e. (and-left (is_static m.flags) (is_plain (codes "<clinit>") m) e, plain-from (codes "<clinit>") m (and-right (is_static m.flags) (is_plain (codes "<clinit>") m) e)),
-  λ x. and-both (is_static m.flags) (is_plain (codes "<clinit>") m) x.0 (from-plain (codes "<clinit>") m x.1),
-)
 
 constructs-from : (c : ℕ) (m : Method) → is_constructor c m ≡ true → Constructs c m
 constructs-from c m e =

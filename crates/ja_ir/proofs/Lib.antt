@@ -1,5 +1,5 @@
 pub mod Marks
 pub mod Cuts
-pub mod Types
 pub mod Sampled
 pub mod Entered
+pub mod Projects

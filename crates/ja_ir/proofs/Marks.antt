@@ -5,8 +5,8 @@ use Rattle.std.proofs.lemmas.Bool.{ltb-true, lt-ltb}
 use Rattle.std.proofs.Math.ListN.{length-set}
 use Rattle.ja_ir.specs.declared.method.Instr.{Instr}
 use Rattle.ja_ir.specs.declared.method.Handler.{Handler}
-use Rattle.ja_ir.specs.Blocks.{is_branch, ends_block}
-use Rattle.ja_ir.specs.Leaders.{with_places, with_place, with_targets, with_instr, with_code, with_handlers}
+use Rattle.ja_ir.specs.Blocks.{is_branch, ends_block, may_initialize}
+use Rattle.ja_ir.specs.InnerLeaders.{with_places, with_place, with_targets, with_initializing, with_instr, with_code, with_handlers}
 
 -- the flag of the place is set
 abbrev pub has : List Bool → ℕ → Bool
@@ -102,34 +102,48 @@ place-add p s =
     ] in
     by (nat_lt p (length s)) refl
 
+-- a branch asks for its targets
+abbrev pub AsksTarget : Instr → ℕ → Type 0
+AsksTarget x j = (is_branch x.op ≡ true) × Contains x.next j
+
+-- an instruction that may initialise a class asks for its own place
+abbrev pub AsksHere : ℕ → Instr → ℕ → Type 0
+AsksHere i x j = (may_initialize x.op ≡ true) × (i ≡ j)
+
+-- an instruction that ends a block asks for the place after it
+abbrev pub AsksAfter : ℕ → Instr → ℕ → Type 0
+AsksAfter i x j = (ends_block x.op ≡ true) × (suc i ≡ j)
+
 -- instruction i asks that the flag of j be set
 abbrev pub Asks : ℕ → Instr → ℕ → Type 0
-Asks i x j = ((is_branch x.op ≡ true) × Contains x.next j) ⊎ ((ends_block x.op ≡ true) × (suc i ≡ j))
+Asks i x j = (AsksTarget x j ⊎ AsksHere i x j) ⊎ AsksAfter i x j
 
-targets-add : (x : Instr) (s : List Bool) → All (λ p. p < length s) x.next → Adds s (with_targets x s) (λ j. (is_branch x.op ≡ true) × Contains x.next j)
+targets-add : (x : Instr) (s : List Bool) → All (λ p. p < length s) x.next → Adds s (with_targets x s) (AsksTarget x)
 targets-add x s all =
-    let by : (b : Bool) → is_branch x.op ≡ b → Adds s (if b then with_places x.next s else s) (λ j. (is_branch x.op ≡ true) × Contains x.next j) =
+    let by : (b : Bool) → is_branch x.op ≡ b → Adds s (if b then with_places x.next s else s) (AsksTarget x) =
     elim [
       | true ↦ λ e. as-add s _ (Contains x.next) _ (λ j h. (e, h)) (λ j h. h.1) (places-add x.next s all)
       | false ↦ λ e. as-add s s (λ j. ⊥) _ (λ j h. absurd h) (λ j h. cc) (none-adds s)
     ] in
     by (is_branch x.op) refl
 
+-- a place is asked for where a test holds
+place-where : (test : Bool) (p : ℕ) (s : List Bool) → Adds s (if test then with_place p s else s) (λ j. (test ≡ true) × (p ≡ j))
+place-where true p s = as-add s _ (λ j. p ≡ j) _ (λ j h. (refl, h)) (λ j h. h.1) (place-add p s)
+place-where false p s = as-add s s (λ j. ⊥) _ (λ j h. absurd h) (λ j h. cc) (none-adds s)
+
 instr-adds : (i : ℕ) (x : Instr) (s : List Bool) → All (λ p. p < length s) x.next → Adds s (with_instr i x s) (Asks i x)
 instr-adds i x s all =
-    let first : Adds s (with_targets x s) (λ j. (is_branch x.op ≡ true) × Contains x.next j) = targets-add x s all in
-    let by : (b : Bool) → ends_block x.op ≡ b → Adds s (if b then with_place (i + 1) (with_targets x s) else with_targets x s) (Asks i x) =
-    elim [
-      | true ↦ λ e. as-add s _ (λ j. ((is_branch x.op ≡ true) × Contains x.next j) ⊎ (i + 1 ≡ j)) (Asks i x)
-          (λ j h. elim h [ inl a ↦ inl a | inr b ↦ inr (e, (let q : suc i ≡ j = omega arith in q)) ])
-          (λ j h. elim h [ inl a ↦ inl a | inr b ↦ inr (let r : suc i ≡ j = b.1 in omega arith) ])
-          (both-add s _ _ (λ j. (is_branch x.op ≡ true) × Contains x.next j) (λ j. i + 1 ≡ j) first (place-add (i + 1) (with_targets x s)))
-      | false ↦ λ e. as-add s _ (λ j. (is_branch x.op ≡ true) × Contains x.next j) (Asks i x)
-          (λ j h. inl h)
-          (λ j h. elim h [ inl a ↦ a | inr b ↦ (let r : ends_block x.op ≡ true = b.0 in cc) ])
-          first
-    ] in
-    by (ends_block x.op) refl
+    let first : Adds s (with_targets x s) (AsksTarget x) = targets-add x s all in
+    let second : Adds (with_targets x s) (with_initializing i x (with_targets x s)) (AsksHere i x) = place-where (may_initialize x.op) i (with_targets x s) in
+    let both : Adds s (with_initializing i x (with_targets x s)) (λ j. AsksTarget x j ⊎ AsksHere i x j) =
+    both-add s _ _ (AsksTarget x) (AsksHere i x) first second in
+    let third : Adds (with_initializing i x (with_targets x s)) (with_instr i x s) (AsksAfter i x) =
+    as-add (with_initializing i x (with_targets x s)) (with_instr i x s) (λ j. (ends_block x.op ≡ true) × (i + 1 ≡ j)) (AsksAfter i x)
+    (λ j h. (h.0, (let q : i + 1 ≡ j = h.1 in omega arith)))
+    (λ j h. (h.0, (let q : suc i ≡ j = h.1 in omega arith)))
+    (place-where (ends_block x.op) (i + 1) (with_initializing i x (with_targets x s))) in
+    both-add s _ _ (λ j. AsksTarget x j ⊎ AsksHere i x j) (AsksAfter i x) both third
 
 -- some instruction of the list, the first of which has index i, asks for j
 abbrev pub CodeAsks : ℕ → List Instr → ℕ → Type 0

@@ -3,7 +3,7 @@ use Rattle.std.proofs.Common.{◌≡◌, inl, ℕ, zero, suc, ◌+◌, ◌<◌, 
 use Rattle.std.specs.Prelude.{◌↔◌, Option, Some, None, All, codes, slice_get}
 use Rattle.std.proofs.lemmas.List.Elements.{All-from_recursion}
 use Rattle.ja_base.specs.declared.java_type.JavaType.{JavaType}
-use Rattle.ja_base.specs.Descriptor.{IsField, IsMethod}
+use Rattle.ja_base.specs.Descriptor.{AreTypes, IsField, IsMethod}
 use Rattle.ja_ir.specs.declared.program.Parts.{Parts}
 use Rattle.ja_ir.specs.declared.class.ClassInfo.{ClassInfo}
 use Rattle.ja_ir.specs.declared.class.Field.{Field}
@@ -16,12 +16,12 @@ use Rattle.ja_ir.specs.declared.entry.Site.{Site}
 use Rattle.ja_base.specs.declared.java_type.Kind.TheVariants.{P1}
 use Rattle.ja_ir.specs.declared.class.MethodAt.TheVariants.{Program, Abstract}
 use Rattle.ja_ir.specs.declared.op.Op.TheVariants.{Const, Return, Call, Throw}
-use Rattle.ja_ir.specs.Examples.{at}
+use Rattle.ja_ir.specs.Examples.{at, no_types}
 use Rattle.ja_ir.specs.Lookup.{HasCode, is_member}
 use Rattle.ja_ir.specs.Operations.{height_after}
 use Rattle.ja_ir.specs.Handlers.{in_range}
-use Rattle.ja_ir.specs.Whole.{NamesClass, NamesAll, LiesIn, IsNamed, HasConstructor, IsWholeEntry, IsWholeSelection, IsDescribed, ReturnsAs, SpellsField, SpellsMethod, IsWholeMethod, IsWholeSite, IsSmall, IsReachedAt, Starts, Runs, IsWhole}
-use Rattle.ja_ir.specs.Sample.{sink, main, constructor, member, without_code, selected, sample}
+use Rattle.ja_ir.specs.Whole.{NamesClass, NamesAll, LiesIn, IsNamed, HasConstructor, IsWholeEntry, IsWholeSelection, IsDescribed, ReturnsAs, SpellsField, SpellsMethod, IsWholeMethod, IsWholeRow, NamesInitializer, IsWholeSite, IsSmall, IsReachedAt, Starts, Runs, IsWhole}
+use Rattle.ja_ir.specs.Sample.{sink, main, constructor, member, without_code, initializer, selected, sample}
 
 -- ()V and (I)V are method descriptors, and I is a field descriptor
 plain : IsMethod (codes "()V") [] None
@@ -62,6 +62,16 @@ return-runs = record {
 
 member-runs : Runs member 0 (at 0 (Return None) [] 0)
 member-runs = record {
+  height = lit≤ tt;
+  operands = lit≤ tt;
+  locals = tt;
+  goes_on = λ h. cc;
+  next = λ k d lt. absurd (omega arith);
+  handlers = λ k d lt. absurd (omega arith);
+}
+
+initializer-runs : Runs initializer 0 (at 0 (Return None) [] 0)
+initializer-runs = record {
   height = lit≤ tt;
   operands = lit≤ tt;
   locals = tt;
@@ -114,33 +124,48 @@ return-names = All-from_recursion (NamesAll sample 1) constructor.code (record {
 spelled : SpellsMethod (codes "()V")
 spelled = ([], None, plain)
 
+-- the types of the methods of the sample
+no_types-spelled : AreTypes (codes "()V") no_types
+no_types-spelled = record { spelled = plain; words = refl }
+
+whole-row : IsWholeRow sample sink.row
+whole-row = record { marks = refl; category = lit< tt }
+
 main-whole : IsWholeMethod sample main
 main-whole = record {
-  spelled = spelled;
+  spelled = no_types-spelled;
   code = (λ h. refl, λ e. lit< tt);
-  calls = All-from_recursion (λ (x : Instr). IsDescribed sample x.op) main.code (tt, ((with_number, tt), (tt, (tt, tt))));
-  returns = All-from_recursion (λ (x : Instr). x.reached ≡ true → ReturnsAs (codes "()V") x.op) main.code ((λ e. tt), ((λ e. tt), ((λ e. ([], plain)), ((λ e. tt), tt))));
+  calls = All-from_recursion (λ (x : Instr). IsDescribed sample x.op) main.code (tt, ((with_number, tt, whole-row), (tt, (tt, tt))));
+  returns = All-from_recursion (λ (x : Instr). x.reached ≡ true → ReturnsAs None x.op) main.code ((λ e. tt), ((λ e. tt), ((λ e. refl), ((λ e. tt), tt))));
 }
 
 constructor-whole : IsWholeMethod sample constructor
 constructor-whole = record {
-  spelled = spelled;
+  spelled = no_types-spelled;
   code = (λ h. refl, λ e. lit< tt);
   calls = All-from_recursion (λ (x : Instr). IsDescribed sample x.op) constructor.code (tt, tt);
-  returns = All-from_recursion (λ (x : Instr). x.reached ≡ true → ReturnsAs (codes "()V") x.op) constructor.code ((λ e. ([], plain)), tt);
+  returns = All-from_recursion (λ (x : Instr). x.reached ≡ true → ReturnsAs None x.op) constructor.code ((λ e. refl), tt);
 }
 
 member-whole : IsWholeMethod sample member
 member-whole = record {
-  spelled = spelled;
+  spelled = no_types-spelled;
   code = (λ h. refl, λ e. lit< tt);
   calls = All-from_recursion (λ (x : Instr). IsDescribed sample x.op) member.code (tt, tt);
-  returns = All-from_recursion (λ (x : Instr). x.reached ≡ true → ReturnsAs (codes "()V") x.op) member.code ((λ e. ([], plain)), tt);
+  returns = All-from_recursion (λ (x : Instr). x.reached ≡ true → ReturnsAs None x.op) member.code ((λ e. refl), tt);
+}
+
+initializer-whole : IsWholeMethod sample initializer
+initializer-whole = record {
+  spelled = no_types-spelled;
+  code = (λ h. refl, λ e. lit< tt);
+  calls = All-from_recursion (λ (x : Instr). IsDescribed sample x.op) initializer.code (tt, tt);
+  returns = All-from_recursion (λ (x : Instr). x.reached ≡ true → ReturnsAs None x.op) initializer.code ((λ e. refl), tt);
 }
 
 without_code-whole : IsWholeMethod sample without_code
 without_code-whole = record {
-  spelled = spelled;
+  spelled = no_types-spelled;
   code = (λ h. absurd (omega arith), λ e. cc);
   calls = λ k d lt. absurd (omega arith);
   returns = λ k d lt. absurd (omega arith);
@@ -166,37 +191,45 @@ sample-selections = All-from_recursion (IsWholeSelection sample) selected (
   ),
 )
 
+initializes : NamesInitializer sample 4
+initializes = record { method = initializer; named = record { found = refl; is_name = refl; is_desc = refl }; belongs = refl; code = lit< tt }
+
 -- the sample is whole
 pub sample-whole : IsWhole sample
 sample-whole = record {
   supers = All-from_recursion (λ (c : ClassInfo). All (λ s. NamesClass sample s.0) c.supers) sample.classes (All-from_recursion (λ s. NamesClass sample s.0) (record { 0 = 0 } ∷ []) (lit< tt, tt), tt);
   field_classes = All-from_recursion (λ (f : Field). NamesClass sample f.class.0) sample.fields (lit< tt, tt);
-  method_classes = All-from_recursion (λ (m : Method). NamesClass sample m.class.0) sample.methods (lit< tt, (lit< tt, (lit< tt, (lit< tt, tt))));
-  instructions = All-from_recursion (λ (m : Method). All (NamesAll sample (length m.code)) m.code) sample.methods (main-names, (return-names, (return-names, ((λ k d lt. absurd (omega arith)), tt))));
+  method_classes = All-from_recursion (λ (m : Method). NamesClass sample m.class.0) sample.methods (lit< tt, (lit< tt, (lit< tt, (lit< tt, (lit< tt, tt)))));
+  inits = All-from_recursion (λ (c : ClassInfo). All (λ m. NamesInitializer sample m.0) c.inits) sample.classes (All-from_recursion (λ m. NamesInitializer sample m.0) (record { 0 = 4 } ∷ []) (initializes, tt), tt);
+  categories = lit≤ tt;
+  instructions = All-from_recursion (λ (m : Method). All (NamesAll sample (length m.code)) m.code) sample.methods (main-names, (return-names, (return-names, ((λ k d lt. absurd (omega arith)), (return-names, tt)))));
   handlers = All-from_recursion (λ (m : Method). All (LiesIn sample (length m.code)) m.handlers) sample.methods (
     All-from_recursion (LiesIn sample 4) main.handlers (record { start = lit< tt; end = lit≤ tt; target = lit< tt; class = tt }, tt),
-    ((λ k d lt. absurd (omega arith)), ((λ k d lt. absurd (omega arith)), ((λ k d lt. absurd (omega arith)), tt))),
+    ((λ k d lt. absurd (omega arith)), ((λ k d lt. absurd (omega arith)), ((λ k d lt. absurd (omega arith)), ((λ k d lt. absurd (omega arith)), tt)))),
   );
   entries = All-from_recursion (IsWholeEntry sample) sample.entries (
-    record { class = lit< tt; method = main; found = refl; code = lit< tt; receiver = λ e. constructs },
-    (record { class = lit< tt; method = member; found = refl; code = lit< tt; receiver = λ e. constructs }, tt),
+    record { class = lit< tt; method = main; found = refl; code = lit< tt; receiver = λ e. constructs; marks = refl },
+    (record { class = lit< tt; method = member; found = refl; code = lit< tt; receiver = λ e. constructs; marks = refl }, tt),
   );
   selections = All-from_recursion (λ (c : ClassInfo). All (IsWholeSelection sample) c.selections) sample.classes (sample-selections, tt);
   described = All-from_recursion (λ (f : Field). SpellsField f.desc) sample.fields ((record { kind = P1; name = codes "I" }, inl (refl, refl)), tt);
-  methods = All-from_recursion (IsWholeMethod sample) sample.methods (main-whole, (constructor-whole, (member-whole, (without_code-whole, tt))));
+  methods = All-from_recursion (IsWholeMethod sample) sample.methods (main-whole, (constructor-whole, (member-whole, (without_code-whole, (initializer-whole, tt)))));
   sites = All-from_recursion (IsWholeSite sample) sample.sites (
-    record { instr = at 1 (Call sink) (2 ∷ []) 1; call = sink; found = refl; is_call = refl; positions = one-named 1 0 (lit< tt) },
+    record { instr = at 1 (Call sink) (2 ∷ []) 1; call = sink; found = refl; is_call = refl; positions = one-named 1 0 (lit< tt); category = lit< tt },
     tt,
   );
   small = record { classes = lit≤ tt; fields = lit≤ tt; methods = lit≤ tt; instructions = lit≤ tt; sites = lit≤ tt };
-  frames = All-from_recursion (λ (m : Method). m.locals + m.stack ≤ 512) sample.methods (lit≤ tt, (lit≤ tt, (lit≤ tt, (lit≤ tt, tt))));
+  frames = All-from_recursion (λ (m : Method). m.locals + m.stack ≤ 512) sample.methods (lit≤ tt, (lit≤ tt, (lit≤ tt, (lit≤ tt, (lit≤ tt, tt)))));
   starts = All-from_recursion (λ (m : Method). HasCode m → Starts m) sample.methods (
-    (λ h. record { params = []; result = None; spelled = plain; room = lit≤ tt; first = record { instr = at 0 (Const P1) (1 ∷ []) 0; found = refl; reached = refl; is_height = refl } }),
+    (λ h. record { room = lit≤ tt; first = record { instr = at 0 (Const P1) (1 ∷ []) 0; found = refl; reached = refl; is_height = refl } }),
     (
-      (λ h. record { params = []; result = None; spelled = plain; room = lit≤ tt; first = record { instr = at 0 (Return None) [] 0; found = refl; reached = refl; is_height = refl } }),
+      (λ h. record { room = lit≤ tt; first = record { instr = at 0 (Return None) [] 0; found = refl; reached = refl; is_height = refl } }),
       (
-        (λ h. record { params = []; result = None; spelled = plain; room = lit≤ tt; first = record { instr = at 0 (Return None) [] 0; found = refl; reached = refl; is_height = refl } }),
-        ((λ h. absurd (omega arith)), tt),
+        (λ h. record { room = lit≤ tt; first = record { instr = at 0 (Return None) [] 0; found = refl; reached = refl; is_height = refl } }),
+        (
+          (λ h. absurd (omega arith)),
+          ((λ h. record { room = lit≤ tt; first = record { instr = at 0 (Return None) [] 0; found = refl; reached = refl; is_height = refl } }), tt),
+        ),
       ),
     ),
   );
@@ -206,7 +239,7 @@ sample-whole = record {
       runs-at constructor ((λ e. return-runs), tt),
       (
         runs-at member ((λ e. member-runs), tt),
-        ((λ i x e. cc), tt),
+        ((λ i x e. cc), (runs-at initializer ((λ e. initializer-runs), tt), tt)),
       ),
     ),
   );

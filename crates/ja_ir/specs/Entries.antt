@@ -1,17 +1,13 @@
--- The methods that the environment runs beside the entries.
+-- The constructors that the environment runs beside the entries.
 use Rattle.std.specs.Prelude.{◌≡◌, ℕ, ◌<◌, ◌==◌, ◌&&◌, Bool, true, List, Option, Some, codes, bytes_eq, length, nat_lt, slice_get}
 use Rattle.std.specs.List.{position_from}
 use Rattle.ja_ir.specs.declared.program.Parts.{Parts}
 use Rattle.ja_ir.specs.declared.method.Method.{Method}
-use Rattle.ja_ir.specs.Lookup.{is_static, is_member, HasCode}
+use Rattle.ja_ir.specs.Lookup.{is_member, HasCode}
 
 -- the method has this name, the descriptor ()V, and code
 abbrev pub is_plain : (name : List ℕ) → Method → Bool
 is_plain name method = bytes_eq method.name name && (bytes_eq method.desc (codes "()V") && nat_lt 0 (length method.code))
-
--- the method is a class initialiser (JVM specification 2.9)
-abbrev pub is_initializer : Method → Bool
-is_initializer method = is_static method.flags && is_plain (codes "<clinit>") method
 
 -- the method makes an object of class c ready without arguments
 abbrev pub is_constructor : (c : ℕ) → Method → Bool

@@ -3,6 +3,7 @@ use Rattle.std.specs.Prelude.{◌≡◌, ℕ, true, false, List, [], ◌∷◌, 
 use Rattle.ja_base.specs.declared.id.ClassId.{ClassId}
 use Rattle.ja_base.specs.declared.java_type.Kind.TheVariants.{P1, P2, R}
 use Rattle.ja_base.specs.declared.java_type.JavaType.{JavaType}
+use Rattle.ja_base.specs.declared.java_type.Desc.{Desc}
 use Rattle.ja_ir.specs.declared.program.Parts.{Parts}
 use Rattle.ja_ir.specs.declared.class.ClassInfo.{ClassInfo}
 use Rattle.ja_ir.specs.declared.class.Selection.{Selection}
@@ -16,22 +17,25 @@ use Rattle.ja_ir.specs.declared.method.Catch.TheVariants.{All as Everything, Pro
 use Rattle.ja_ir.specs.declared.op.Op.{Op}
 use Rattle.ja_ir.specs.declared.op.Op.TheVariants.{Nop, Return}
 use Rattle.ja_ir.specs.Lookup.{select}
-use Rattle.ja_ir.specs.Descriptors.{params_of}
 use Rattle.ja_ir.specs.Handlers.{Inside, Outside, dest}
 use Rattle.ja_ir.specs.Tokens.{fits, names_program, absorbs, fresh_tokens}
 
 -- a class of this name with these classes at or above it
 abbrev pub class : (name : List ℕ) (flags : ℕ) (supers : List ℕ) (selections : List Selection) → ClassInfo
-class name flags supers selections = record { name = name; file = name; flags = flags; absorbing = false; supers = ids supers; selections = selections }
+class name flags supers selections = record { name = name; file = name; flags = flags; absorbing = false; supers = ids supers; selections = selections; inits = [] }
   where
     ids : List ℕ → List ClassId
     ids [] = []
     ids (c ∷ cs) = record { 0 = c } ∷ ids cs
 
--- a method of class c
-abbrev pub method : (c : ℕ) (name desc : List ℕ) (flags locals stack : ℕ) (code : List Instr) (handlers : List Handler) → Method
-method c name desc flags locals stack code handlers =
-    record { class = record { 0 = c }; name = name; desc = desc; flags = flags; locals = locals; stack = stack; code = code; handlers = handlers }
+-- neither parameters nor a result
+abbrev pub no_types : Desc
+no_types = record { params = []; result = None; words = 0 }
+
+-- a method of class c without parameters and result
+abbrev pub method : (c : ℕ) (name : List ℕ) (flags locals stack : ℕ) (code : List Instr) (handlers : List Handler) → Method
+method c name flags locals stack code handlers =
+    record { class = record { 0 = c }; name = name; desc = codes "()V"; types = no_types; flags = flags; locals = locals; stack = stack; code = code; handlers = handlers }
 
 -- an instruction that is reached
 abbrev pub at : (i : ℕ) (op : Op) (next : List ℕ) (height : ℕ) → Instr
@@ -47,13 +51,14 @@ abbrev pub pair : Parts
 pair = record {
   classes = class (codes "A") 0x0421 (0 ∷ []) [] ∷ class (codes "B") 0x0021 (0 ∷ 1 ∷ []) (selects (codes "m") (Program (record { 0 = 0 })) ∷ selects (codes "n") (Abstract (record { 0 = 1 })) ∷ []) ∷ [];
   methods =
-      method 1 (codes "m") (codes "()V") 0x0001 1 0 (at 0 Nop (1 ∷ []) 0 ∷ at 1 (Return None) [] 0 ∷ [])
+      method 1 (codes "m") 0x0001 1 0 (at 0 Nop (1 ∷ []) 0 ∷ at 1 (Return None) [] 0 ∷ [])
       (over (InClass (record { 0 = 1 })) 10 ∷ over InLibrary 20 ∷ over (InClass (record { 0 = 0 })) 30 ∷ over Everything 40 ∷ over Everything 50 ∷ [])
-      ∷ method 0 (codes "n") (codes "()V") 0x0401 0 0 [] []
+      ∷ method 0 (codes "n") 0x0401 0 0 [] []
       ∷ [];
   fields = [];
   entries = [];
   sites = [];
+  categories = [];
 }
   where
     selects : List ℕ → MethodAt → Selection
@@ -70,6 +75,7 @@ nameless = record {
   fields = [];
   entries = [];
   sites = [];
+  categories = [];
 }
 
 -- no class at all
@@ -110,7 +116,7 @@ pub record TokensAreMade : Type 0 where
   pub of_object : fresh_tokens pair (named (codes "java/lang/Object")) ≡ 3 ∷ 5 ∷ 4 ∷ 3 ∷ []
   pub of_other_class : fresh_tokens pair (named (codes "java/util/List")) ≡ 3 ∷ []
 
--- where exceptions go, what calls select, and which types a descriptor has
+-- where exceptions go, and what calls select
 pub record LookUpsAnswer : Type 0 where
   pub of_subclass : dest pair 0 0 1 ≡ Inside 10 ∷ []
   pub of_class : dest pair 0 0 0 ≡ Inside 20 ∷ Inside 30 ∷ []
@@ -119,5 +125,3 @@ pub record LookUpsAnswer : Type 0 where
   pub method_with_code : select pair 1 (codes "m") (codes "()V") ≡ Program (record { 0 = 0 })
   pub method_without_code : select pair 1 (codes "n") (codes "()V") ≡ Abstract (record { 0 = 1 })
   pub other_method : select pair 1 (codes "m") (codes "(I)V") ≡ Library
-  pub types : params_of (codes "(IJ[DLjava/lang/String;[[LA;)Z") ≡
-      record { kind = P1; name = codes "I" } ∷ record { kind = P2; name = codes "J" } ∷ named (codes "[D") ∷ named (codes "java/lang/String") ∷ named (codes "[[LA;") ∷ []

@@ -3,9 +3,12 @@ pub mod Descriptors
 pub mod Operations
 pub mod Tokens
 pub mod Handlers
+pub mod Categories
+pub mod Initializing
+pub mod Params
 pub mod Whole
 pub mod Entries
 pub mod Blocks
-pub mod Leaders
+pub mod InnerLeaders
 pub mod Examples
 pub mod Sample

@@ -32,27 +32,31 @@ sink = record {
   desc = codes "(I)V";
   params = record { kind = P1; name = codes "I" } ∷ [];
   result = None;
-  row = record { flow = Never; effect = Quiet; result = Fresh; sinks = 0 ∷ [] };
+  row = record { flow = Never; effect = Quiet; result = Fresh; sinks = 0 ∷ []; marks = true ∷ []; category = 0 };
   found = Some Library;
 }
 
 -- a static method that gives a number to the sink, and throws again what the call throws
 abbrev pub main : Method
-main = method 0 (codes "main") (codes "()V") 0x0009 0 1
+main = method 0 (codes "main") 0x0009 0 1
     (at 0 (Const P1) (1 ∷ []) 0 ∷ at 1 (Call sink) (2 ∷ []) 1 ∷ at 2 (Return None) [] 0 ∷ at 3 Throw [] 1 ∷ [])
     (record { start = 0; end = 2; target = 3; catch = Everything } ∷ [])
 
 -- a constructor
 abbrev pub constructor : Method
-constructor = method 0 (codes "<init>") (codes "()V") 0x0001 1 0 (at 0 (Return None) [] 0 ∷ []) []
+constructor = method 0 (codes "<init>") 0x0001 1 0 (at 0 (Return None) [] 0 ∷ []) []
 
 -- a method with a receiver
 abbrev pub member : Method
-member = method 0 (codes "m") (codes "()V") 0x0001 1 0 (at 0 (Return None) [] 0 ∷ []) []
+member = method 0 (codes "m") 0x0001 1 0 (at 0 (Return None) [] 0 ∷ []) []
+
+-- a class initialiser
+abbrev pub initializer : Method
+initializer = method 0 (codes "<clinit>") 0x0008 0 0 (at 0 (Return None) [] 0 ∷ []) []
 
 -- a method without code
 abbrev pub without_code : Method
-without_code = method 0 (codes "n") (codes "()V") 0x0401 0 0 [] []
+without_code = method 0 (codes "n") 0x0401 0 0 [] []
 
 -- what calls on an object of the class select
 abbrev pub selected : List Selection
@@ -64,12 +68,13 @@ selected =
 -- a class with these methods and a field; the static method and the one with a receiver are entries
 abbrev pub sample : Parts
 sample = record {
-  classes = class (codes "A") 0x0421 (0 ∷ []) selected ∷ [];
-  methods = main ∷ constructor ∷ member ∷ without_code ∷ [];
+  classes = record (class (codes "A") 0x0421 (0 ∷ []) selected) { inits = record { 0 = 4 } ∷ [] } ∷ [];
+  methods = main ∷ constructor ∷ member ∷ without_code ∷ initializer ∷ [];
   fields = record { class = record { 0 = 0 }; name = codes "a"; desc = codes "I"; flags = 0; text = false } ∷ [];
   entries = entry 0 ∷ entry 2 ∷ [];
-  sites = record { method = record { 0 = 0 }; index = 1; positions = 0 ∷ []; target = codes "demo/Taint.sink(I)V" } ∷ [];
+  sites = record { method = record { 0 = 0 }; index = 1; positions = 0 ∷ []; target = codes "demo/Taint.sink(I)V"; category = 0 } ∷ [];
+  categories = [];
 }
   where
     entry : ℕ → Entry
-    entry m = record { class = record { 0 = 0 }; method = record { 0 = m }; marked = [] }
+    entry m = record { class = record { 0 = 0 }; method = record { 0 = m }; marked = []; marks = true ∷ [] }

@@ -1,7 +1,7 @@
 -- What each program keeps.
 use Rattle.std.specs.Prelude.{◌≡◌, ℕ, ◌+◌, ◌<◌, ◌≤◌, ◌^◌, ◌⊎◌, ◌↔◌, true, false, List, [], ◌∷◌, Option, Some, None, All, codes, length, slice_get, sum_by}
 use Rattle.ja_base.specs.declared.java_type.JavaType.{JavaType}
-use Rattle.ja_base.specs.Descriptor.{IsField, IsMethod, words_of_all}
+use Rattle.ja_base.specs.Descriptor.{AreTypes, IsField, IsMethod, words_of_all}
 use Rattle.ja_ir.specs.declared.program.Parts.{Parts}
 use Rattle.ja_ir.specs.declared.class.Selection.{Selection}
 use Rattle.ja_ir.specs.declared.class.MethodAt.{MethodAt}
@@ -13,12 +13,14 @@ use Rattle.ja_ir.specs.declared.method.Catch.{Catch}
 use Rattle.ja_ir.specs.declared.method.Catch.TheVariants.{All as Everything, Program as InClass, Library as InLibrary}
 use Rattle.ja_ir.specs.declared.entry.Entry.{Entry}
 use Rattle.ja_ir.specs.declared.entry.Site.{Site}
+use Rattle.ja_ir.specs.declared.row.LibRow.{LibRow}
 use Rattle.ja_ir.specs.declared.op.CallOp.{CallOp}
 use Rattle.ja_ir.specs.declared.op.CallKind.{CallKind}
 use Rattle.ja_ir.specs.declared.op.CallKind.TheVariants.{StaticField, MemberField}
 use Rattle.ja_ir.specs.declared.op.Op.{Op}
 use Rattle.ja_ir.specs.declared.op.Op.TheVariants.{New, Return, GetStatic, PutStatic, GetField, PutField, Call, NewArray}
-use Rattle.ja_ir.specs.Lookup.{is_member, is_abstract, HasCode, instr_at}
+use Rattle.ja_ir.specs.Lookup.{is_member, is_abstract, is_static, HasCode, instr_at}
+use Rattle.ja_ir.specs.Categories.{category_count}
 use Rattle.ja_ir.specs.Operations.{arguments, count_of, ends_method, height_after, FindsOperands, UsesLocals}
 use Rattle.ja_ir.specs.Handlers.{in_range}
 
@@ -77,13 +79,15 @@ pub record HasConstructor (p : Parts) (c : ℕ) : Type 0 where
   pub member : is_member method.flags ≡ true
   pub code : HasCode method
 
--- the method of an entry has code; where it has a receiver, the entry's class declares a constructor for it
+-- the method of an entry has code; where it has a receiver, the entry's class declares a constructor for it; and the entry says of each
+-- category whether marks of it may be given
 pub record IsWholeEntry (p : Parts) (entry : Entry) : Type 0 where
   pub class : NamesClass p entry.class.0
   pub method : Method
   pub found : slice_get p.methods entry.method.0 ≡ Some method
   pub code : HasCode method
   pub receiver : is_member method.flags ≡ true → HasConstructor p entry.class.0
+  pub marks : length entry.marks ≡ category_count p
 
 -- where a look-up of a name and descriptor ended in a method, that method has them, and code or none as the answer says
 abbrev pub IsAnswer : Parts → (name desc : List ℕ) → MethodAt → Type 0
@@ -124,31 +128,45 @@ abbrev pub IsFound : Parts → CallOp → Option MethodAt → Type 0
 IsFound p call None = Unit {0}
 IsFound p call (Some target) = IsAnswer p call.name call.desc target
 
--- a call agrees with its descriptor and with what it found; other operations say nothing here
+-- a row says of each category of marks whether it makes them, and its sinks are about one of them
+pub record IsWholeRow (p : Parts) (row : LibRow) : Type 0 where
+  pub marks : length row.marks ≡ category_count p
+  pub category : row.category < category_count p
+
+-- a call agrees with its descriptor and with what it found, and its row is about the categories that there are; other operations say nothing
+-- here
 abbrev pub IsDescribed : Parts → Op → Type 0
-IsDescribed p (Call call) = HasTypes call.kind call.desc call.params call.result × IsFound p call call.found
+IsDescribed p (Call call) = HasTypes call.kind call.desc call.params call.result × IsFound p call call.found × IsWholeRow p call.row
 IsDescribed p _ = Unit {0}
 
--- a return takes a value exactly where the method's descriptor has a result
-abbrev pub ReturnsAs : (desc : List ℕ) → Op → Type 0
-ReturnsAs desc (Return None) = (params : List JavaType) × IsMethod desc params None
-ReturnsAs desc (Return (Some _)) = (params : List JavaType) × (type : JavaType) × IsMethod desc params (Some type)
-ReturnsAs desc _ = Unit {0}
+-- a return takes a value exactly where the method has a result
+abbrev pub ReturnsAs : Option JavaType → Op → Type 0
+ReturnsAs result (Return None) = result ≡ None
+ReturnsAs result (Return (Some _)) = (type : JavaType) × (result ≡ Some type)
+ReturnsAs result _ = Unit {0}
 
--- a method's descriptor is one, it has code exactly where it is not abstract, and its calls and returns agree with their descriptors
+-- a method's types are those of its descriptor, it has code exactly where it is not abstract, and its calls and returns agree with their types
 pub record IsWholeMethod (p : Parts) (method : Method) : Type 0 where
-  pub spelled : SpellsMethod method.desc
+  pub spelled : AreTypes method.desc method.types
   pub code : HasCode method ↔ (is_abstract method.flags ≡ false)
   pub calls : All (λ instr. IsDescribed p instr.op) method.code
-  pub returns : All (λ instr. instr.reached ≡ true → ReturnsAs method.desc instr.op) method.code
+  pub returns : All (λ instr. instr.reached ≡ true → ReturnsAs method.types.result instr.op) method.code
 
--- a site names a call, and its positions are below the number of that call's arguments
+-- the number names a class initialiser: a static method <clinit> with the descriptor ()V and code (JVM specification 2.9)
+pub record NamesInitializer (p : Parts) (m : ℕ) : Type 0 where
+  pub method : Method
+  pub named : IsNamed p m (codes "<clinit>") (codes "()V") method
+  pub belongs : is_static method.flags ≡ true
+  pub code : HasCode method
+
+-- a site names a call, its positions are below the number of that call's arguments, and it is about a category that is there
 pub record IsWholeSite (p : Parts) (site : Site) : Type 0 where
   pub instr : Instr
   pub call : CallOp
   pub found : instr_at p site.method.0 site.index ≡ Some instr
   pub is_call : instr.op ≡ Call call
   pub positions : All (λ k. k < arguments call) site.positions
+  pub category : site.category < category_count p
 
 -- the number of instructions in all methods together
 abbrev pub instruction_count : Parts → ℕ
@@ -171,10 +189,7 @@ pub record IsReachedAt (method : Method) (j height : ℕ) : Type 0 where
 
 -- a method with code has room for its parameters, and its first instruction is reached with an empty stack
 pub record Starts (method : Method) : Type 0 where
-  pub params : List JavaType
-  pub result : Option JavaType
-  pub spelled : IsMethod method.desc params result
-  pub room : count_of (is_member method.flags) + words_of_all params ≤ method.locals
+  pub room : count_of (is_member method.flags) + words_of_all method.types.params ≤ method.locals
   pub first : IsReachedAt method 0 0
 
 -- a reached instruction i finds its operands and locals, and leads to reached instructions of the resulting height, a handler of
@@ -196,6 +211,10 @@ pub record IsWhole (p : Parts) : Type 0 where
   -- each number and index of an instruction and of a handler names something
   pub instructions : All (λ method. All (NamesAll p (length method.code)) method.code) p.methods
   pub handlers : All (λ method. All (LiesIn p (length method.code)) method.handlers) p.methods
+  -- each class initialiser that a class names is one
+  pub inits : All (λ class. All (λ m. NamesInitializer p m.0) class.inits) p.classes
+  -- there are few categories of marks
+  pub categories : length p.categories ≤ 8
   -- each entry can be called
   pub entries : All (IsWholeEntry p) p.entries
   -- descriptors are descriptors, and agree with what they describe

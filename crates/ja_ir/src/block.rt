@@ -1,9 +1,9 @@
 ghost use Rattle.std.specs.Prelude.{◌≡◌, ◌^◌, ◌<◌, ◌≤◌, ◌-◌, ◌+◌, All, IfOk, length};
 ghost use Rattle.ja_ir.specs.Blocks as blocks;
 ghost use Rattle.ja_ir.specs.Blocks.{AreBlocks, StaysInside};
-ghost use Rattle.ja_ir.specs.Leaders.{blocks_after, with_code, with_handlers, with_instr, with_place, with_places};
+ghost use Rattle.ja_ir.specs.InnerLeaders.{blocks_after, with_code, with_handlers, with_instr, with_place, with_places};
 
-use crate::{Handler, Instr, Method, Op};
+use crate::{CallKind, Handler, Instr, Method, Op};
 use ja_base::{Memory, Seq};
 use std::alloc::Global;
 
@@ -18,8 +18,9 @@ pub struct Block {
 pub type Blocks = Seq<Block>;
 
 /// Cuts a method into its longest straight runs: a block begins at the first instruction, at each
-/// branch target, at each handler, and after each branch, return, throw and call. The time is linear
-/// in the method's size.
+/// branch target, at each handler, at each instruction that may initialise a class (New, GetStatic,
+/// PutStatic and a static call), and after each branch, return, throw and call. The time is linear in
+/// the method's size.
 pub fn blocks_of(alloc: Global, m: &Method) -> Result<Blocks, Memory>
     requires inside { StaysInside m.now }
     requires few { length m.now.code ≤ 2 ^ 32 }
@@ -55,6 +56,17 @@ fn ends_block(op: &Op) -> bool
     }
 }
 
+/// Whether an operation may initialise a class, whatever class it names.
+fn may_initialize(op: &Op) -> bool
+    ensures { result ≡ blocks.may_initialize op.now }
+{
+    match op {
+        Op::New(_) | Op::GetStatic(_) | Op::PutStatic(_) => true,
+        Op::Call(call) => call.kind == CallKind::Static,
+        _ => false,
+    }
+}
+
 /// Marks these places.
 fn mark_places(starts: &mut [bool], places: &[u64])
     requires { All (λ place. place < length starts.old) places.now }
@@ -82,6 +94,9 @@ fn mark_instr(starts: &mut [bool], index: usize, instr: &Instr)
 {
     if is_branch(&instr.op) {
         mark_places(starts, instr.next.as_slice());
+    }
+    if may_initialize(&instr.op) {
+        mark_place(starts, index);
     }
     if ends_block(&instr.op) {
         mark_place(starts, index + 1);

@@ -16,6 +16,9 @@ pub struct ClassInfo {
     /// What a virtual call on an object of the class selects, one item for each name and descriptor
     /// of a method that the class or a program supertype declares.
     pub selections: Selections,
+    /// The class initialisers that run where the class is initialised: its own and those of its
+    /// program supertypes, in ascending order (JVM specification 5.5).
+    pub inits: MethodIds,
 }
 
 /// What a virtual call of a name and descriptor selects (JVM specification 6.5, invokevirtual).

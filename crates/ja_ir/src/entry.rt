@@ -1,4 +1,4 @@
-use ja_base::{ClassId, MethodId, Name, Numbers, Seq};
+use ja_base::{ClassId, Flags, MethodId, Name, Numbers, Seq};
 
 /// A method that the environment may call.
 #[derive(Drop)]
@@ -8,6 +8,8 @@ pub struct Entry {
     pub method: MethodId,
     /// The argument positions, a receiver first, that may be given marked things.
     pub marked: Numbers,
+    /// For each category of marks, whether marked things of it may be given there.
+    pub marks: Flags,
 }
 
 /// A sink call.
@@ -20,6 +22,8 @@ pub struct Site {
     pub positions: Numbers,
     /// The class, `.`, the name and the descriptor that the call names.
     pub target: Name,
+    /// The category of marks that the sink is about.
+    pub category: u32,
 }
 
 /// A list of entries.

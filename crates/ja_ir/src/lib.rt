@@ -4,12 +4,15 @@
 
 mod block;
 mod class;
+mod copy;
 mod entry;
 mod head;
+mod initializing;
 mod law;
 mod method;
 mod op;
 mod program;
+mod project;
 mod row;
 
 pub use block::{Block, Blocks, blocks_of};
@@ -19,13 +22,8 @@ pub use class::{
 };
 pub use entry::{Entries, Entry, Site, Sites};
 pub use head::{ClassHead, HeadField, HeadFields, HeadMethod, HeadMethods};
-pub use law::{
-    law_environment_methods, law_params_are_spelled, law_sample_is_whole, law_small_program,
-};
+pub use law::{law_environment_methods, law_sample_is_whole, law_small_program};
 pub use method::{Catch, Handler, Handlers, Instr, Instrs, Method, Methods};
 pub use op::{CallKind, CallOp, Op, Token};
 pub use program::{Parts, Program};
 pub use row::{LibRow, RowEffect, RowFlow, RowResult};
-
-#[cfg(test)]
-mod tests;

@@ -1,5 +1,5 @@
 use crate::Op;
-use ja_base::{ClassId, Name, Numbers, Seq};
+use ja_base::{ClassId, Desc, Name, Numbers, Seq};
 
 /// A method of a program class.
 #[derive(Drop)]
@@ -8,6 +8,8 @@ pub struct Method {
     pub class: ClassId,
     pub name: Name,
     pub desc: Name,
+    /// The types that the descriptor spells.
+    pub types: Desc,
     /// The access flags (JVM specification table 4.6-A).
     pub flags: u32,
     /// `max_locals` (JVM specification 4.7.3).

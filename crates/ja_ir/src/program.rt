@@ -1,7 +1,7 @@
 ghost use Rattle.std.specs.Prelude.{◌≡◌, []};
 
 use crate::{ClassInfos, Entries, Fields, Methods, Sites};
-use ja_base::Seq;
+use ja_base::{Names, Seq};
 use std::alloc::Global;
 use std::marker::Model;
 
@@ -15,6 +15,8 @@ pub struct Parts {
     pub entries: Entries,
     /// The sink calls, in the order of the report.
     pub sites: Sites,
+    /// The names of the categories of marks; none where there is one category, which has no name.
+    pub categories: Names,
 }
 
 /// A whole program: each number in it names something, descriptors agree with what they describe,
@@ -46,9 +48,10 @@ impl Program {
         fields: Fields,
         entries: Entries,
         sites: Sites,
+        categories: Names,
     ) -> Program
-        requires { IsWhole (record { classes = classes; methods = methods; fields = fields; entries = entries; sites = sites }) }
-        ensures { result ≡ record { classes = classes; methods = methods; fields = fields; entries = entries; sites = sites } }
+        requires { IsWhole (record { classes = classes; methods = methods; fields = fields; entries = entries; sites = sites; categories = categories }) }
+        ensures { result ≡ record { classes = classes; methods = methods; fields = fields; entries = entries; sites = sites; categories = categories } }
     {
         Program {
             parts: Parts {
@@ -57,13 +60,14 @@ impl Program {
                 fields,
                 entries,
                 sites,
+                categories,
             },
         }
     }
 
     /// The program without classes, as a folder without class files spells it. It takes no memory.
     pub fn empty(alloc: Global) -> Program
-        ensures { result ≡ record { classes = []; methods = []; fields = []; entries = []; sites = [] } }
+        ensures { result ≡ record { classes = []; methods = []; fields = []; entries = []; sites = []; categories = [] } }
     {
         let entries = Seq::new(alloc);
         Program::new(
@@ -71,6 +75,7 @@ impl Program {
             Seq::new(alloc),
             Seq::new(alloc),
             entries,
+            Seq::new(alloc),
             Seq::new(alloc),
         )
     }
@@ -121,5 +126,13 @@ impl Program {
         ensures whole { IsWhole self.now }
     {
         &self.parts.sites
+    }
+
+    /// The names of the categories of marks; none where there is one category, which has no name.
+    pub fn categories(&self) -> &Names
+        ensures same { result.now ≡ self.now.categories }
+        ensures whole { IsWhole self.now }
+    {
+        &self.parts.categories
     }
 }

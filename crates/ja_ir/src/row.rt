@@ -1,4 +1,4 @@
-use ja_base::Numbers;
+use ja_base::{Flags, Numbers};
 
 /// What a call of a library method does.
 #[derive(Drop)]
@@ -8,6 +8,10 @@ pub struct LibRow {
     pub result: RowResult,
     /// The argument positions, a receiver first, to which no tainted value may go.
     pub sinks: Numbers,
+    /// For each category of marks, whether a flow that is always there makes marks of it.
+    pub marks: Flags,
+    /// The category of marks that the sinks are about.
+    pub category: u32,
 }
 
 /// When a call of a library method makes tainted things.

@@ -10,8 +10,8 @@ use Rattle.ja_code.specs.declared.handler.RawHandler.{RawHandler}
 use Rattle.ja_code.specs.declared.code.Code.{Code}
 use Rattle.ja_code.specs.Grammar.{Spells}
 use Rattle.ja_ir.specs.declared.head.HeadMethod.{HeadMethod}
-use Rattle.ja_attr.specs.Attribute.{AttributeInfo, IsCode, SayCode, named}
-use Rattle.ja_attr.specs.declared.code.MethodCode.{MethodCode}
+use Rattle.ja_attributes.specs.Attribute.{AttributeInfo, IsCode, SayCode, named}
+use Rattle.ja_attributes.specs.declared.code.MethodCode.{MethodCode}
 use Rattle.ja_class.specs.declared.class.ClassMethod.{ClassMethod}
 use Rattle.ja_class.specs.Member.{HasDescriptor}
 use Rattle.ja_class.specs.Meaning.{ClassSpelled, needs_code, code_said}

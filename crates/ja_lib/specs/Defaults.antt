@@ -20,13 +20,13 @@ row_of classes meaning desc method = record { classes = classes; method = method
 abbrev pub rows_of : (classes : List (List ℕ)) (meaning : LibRow) (methods : List (List ℕ)) → List TableRow
 rows_of classes meaning methods = map (row_of classes meaning None) methods
 
--- what a call without sinks does
+-- what a call without sinks does; there is one category of marks
 abbrev pub means : RowFlow → RowEffect → RowResult → LibRow
-means flow effect result = record { flow = flow; effect = effect; result = result; sinks = [] }
+means flow effect result = record { flow = flow; effect = effect; result = result; sinks = []; marks = true ∷ []; category = 0 }
 
 -- what a call with one sink does
 abbrev pub sinks_at : ℕ → RowFlow → RowEffect → RowResult → LibRow
-sinks_at position flow effect result = record { flow = flow; effect = effect; result = result; sinks = position ∷ [] }
+sinks_at position flow effect result = record { flow = flow; effect = effect; result = result; sinks = position ∷ []; marks = true ∷ []; category = 0 }
 
 -- the classes of the default table
 abbrev pub taint : List (List ℕ)
@@ -101,11 +101,11 @@ default_rows = taint_rows ++ servlet_rows ++ sink_rows ++ string_rows ++ builder
 
 -- a method of each servlet, which the environment calls with no tainted argument
 abbrev pub servlet_entry : (desc method : List ℕ) → EntryRow
-servlet_entry desc method = record { class = codes "javax/servlet/http/HttpServlet"; is_static = false; method = method; desc = desc; marked = [] }
+servlet_entry desc method = record { class = codes "javax/servlet/http/HttpServlet"; is_static = false; method = method; desc = desc; marked = []; marks = true ∷ [] }
 
 -- the method with which a program begins, in any class
 abbrev pub main_entry : EntryRow
-main_entry = record { class = codes "*"; is_static = true; method = codes "main"; desc = codes "([Ljava/lang/String;)V"; marked = [] }
+main_entry = record { class = codes "*"; is_static = true; method = codes "main"; desc = codes "([Ljava/lang/String;)V"; marked = []; marks = true ∷ [] }
 
 -- the entries of the default table
 abbrev pub default_entries : List EntryRow
@@ -117,4 +117,4 @@ default_entries =
 
 -- the table that stands where a folder has none of its own
 abbrev pub default_content : Content
-default_content = record { rows = default_rows; entries = default_entries }
+default_content = record { categories = []; rows = default_rows; entries = default_entries }

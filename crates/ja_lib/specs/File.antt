@@ -1,6 +1,7 @@
 -- What a table file says: the rules for its keys, over the document that TOML reads in its bytes.
-use Rattle.std.specs.Prelude.{◌≡◌, ℕ, zero, suc, nat_lt, ℤ, pos, negsuc, Bool, true, false, ◌&&◌, IsTrue, List, [], ◌∷◌, ◌++◌, Option, Some, None, option_and_then, bytes_eq, codes, if◌then◌else◌, ◌==◌, IsUtf8}
-use Rattle.std.specs.List.{list_any}
+use Rattle.std.specs.Prelude.{◌≡◌, ℕ, zero, suc, nat_lt, ℤ, pos, negsuc, Bool, true, false, ◌&&◌, ◌||◌, IsTrue, List, [], ◌∷◌, ◌++◌, Option, Some, None, option_and_then, option_map, bytes_eq, codes, length, map, nat_le, if◌then◌else◌, ◌==◌, IsUtf8}
+use Rattle.std.specs.List.{list_all, list_any}
+use Rattle.std.specs.List as lists
 use Rattle.toml.specs.Data.{Data, Items, no_items, item, Members, no_members, member, get_member, as_str, as_bool, as_integer, as_array, as_table}
 use Rattle.toml.specs.Parse.{parse_document}
 use Rattle.ja_bytes.specs.DescriptorText.{IsMethodText}
@@ -14,8 +15,8 @@ use Rattle.ja_ir.specs.declared.row.RowResult.TheVariants.{Fresh, Argument, Memb
 use Rattle.ja_lib.specs.declared.row.TableRow.{TableRow}
 use Rattle.ja_lib.specs.declared.entry.EntryRow.{EntryRow}
 use Rattle.ja_lib.specs.declared.fault.TableFault.{TableFault}
-use Rattle.ja_lib.specs.declared.fault.TableFault.TheVariants.{Text, UnknownKey, BadRow, BadEntry, Memory}
-use Rattle.ja_lib.specs.Content.{Content}
+use Rattle.ja_lib.specs.declared.fault.TableFault.TheVariants.{Text, UnknownKey, BadCategory, BadRow, BadEntry, Memory}
+use Rattle.ja_lib.specs.Content.{Content, all_marks}
 
 -- the bytes are a text in TOML of this document
 abbrev pub IsDocument : List ℕ → Members → Type 0
@@ -133,36 +134,103 @@ MayBeDesc (Some value) (Some desc) = IsDesc (Some value) desc
 abbrev pub at : Members → List ℕ → Option Data
 at members key = get_member key members
 
+-- a byte of the name of a category of marks: from a to z, from 0 to 9, or _
+abbrev pub is_category_byte : ℕ → Bool
+is_category_byte b = (nat_le 97 b && nat_le b 122) || ((nat_le 48 b && nat_le b 57) || (b == 95))
+
+-- the name of a category may have so many bytes
+abbrev pub is_name_length : ℕ → Bool
+is_name_length n = nat_le 1 n && nat_le n 32
+
+-- the text may be the name of a category: it has 1 to 32 such bytes
+abbrev pub is_category : List ℕ → Bool
+is_category text = is_name_length (length text) && list_all is_category_byte text
+
+-- the text, if it passes the test
+abbrev pub if_passes : (List ℕ → Bool) → List ℕ → Option (List ℕ)
+if_passes test text = if test text then Some text else None
+
+-- the text, if it is not among those seen
+abbrev pub unseen_text : List (List ℕ) → List ℕ → Option (List ℕ)
+unseen_text seen text = if list_any (bytes_eq text) seen then None else Some text
+
+-- a value that is the name of a category, and not among those seen
+abbrev pub new_category : List (List ℕ) → Data → Option (List ℕ)
+new_category seen value = option_and_then (unseen_text seen) (option_and_then (if_passes is_category) (as_str value))
+
+-- the categories of an array of their names alone
+abbrev pub categories_in : Items → Option (List (List ℕ))
+categories_in items = read_items new_category [] items
+
+-- the list, if it has 1 to 8 items
+abbrev pub if_few : List (List ℕ) → Option (List (List ℕ))
+if_few names = if nat_le 1 (length names) && nat_le (length names) 8 then Some names else None
+
+-- the categories at a key: 1 to 8 distinct names, and none where it is missing
+abbrev pub categories_at : Option Data → Option (List (List ℕ))
+categories_at None = Some []
+categories_at (Some value) = option_and_then if_few (option_and_then categories_in (as_array value))
+
+-- a value that is one of these categories, and not among those seen
+abbrev pub new_mark : (names : List (List ℕ)) → List (List ℕ) → Data → Option (List ℕ)
+new_mark names seen value = option_and_then (unseen_text seen) (option_and_then (if_passes (λ text. list_any (bytes_eq text) names)) (as_str value))
+
+-- the categories that an array of some of them chooses
+abbrev pub chosen_in : (names : List (List ℕ)) → Items → Option (List (List ℕ))
+chosen_in names items = read_items (new_mark names) [] items
+
+-- of each category, whether it is among those chosen
+abbrev pub marks_of : (names chosen : List (List ℕ)) → List Bool
+marks_of names chosen = map (λ name. list_any (bytes_eq name) chosen) names
+
+-- of each category, whether it is among those at a key, distinct ones and at least one; all of them where it is missing
+abbrev pub marks_at : (names : List (List ℕ)) → Option Data → Option (List Bool)
+marks_at names None = Some (all_marks names)
+marks_at names (Some value) =
+    option_map (marks_of names) (option_and_then if_filled (option_and_then (chosen_in names) (as_array value)))
+
+-- the place of a name among the categories
+abbrev pub place_among : (names : List (List ℕ)) → List ℕ → Option ℕ
+place_among names text = lists.position (bytes_eq text) names
+
+-- the category at a key, the first where it is missing
+abbrev pub category_at : (names : List (List ℕ)) → Option Data → Option ℕ
+category_at names None = Some 0
+category_at names (Some value) = option_and_then (place_among names) (as_str value)
+
 -- the keys of a row, and of an entry
 abbrev pub row_keys : List (List ℕ)
-row_keys = codes "class" ∷ codes "method" ∷ codes "desc" ∷ codes "flow" ∷ codes "effect" ∷ codes "result" ∷ codes "sink" ∷ []
+row_keys = codes "class" ∷ codes "method" ∷ codes "desc" ∷ codes "flow" ∷ codes "effect" ∷ codes "result" ∷ codes "sink" ∷ codes "marks" ∷ codes "category" ∷ []
 
 abbrev pub entry_keys : List (List ℕ)
-entry_keys = codes "class" ∷ codes "method" ∷ codes "desc" ∷ codes "static" ∷ codes "marked" ∷ []
+entry_keys = codes "class" ∷ codes "method" ∷ codes "desc" ∷ codes "static" ∷ codes "marked" ∷ codes "marks" ∷ []
 
--- the members of a table of the file say that a call does this
-pub record SpellsMeaning (members : Members) (meaning : LibRow) : Type 0 where
+-- the members of a table of the file say that a call does this, where these are the categories
+pub record SpellsMeaning (names : List (List ℕ)) (members : Members) (meaning : LibRow) : Type 0 where
   pub flow : flow_at (at members (codes "flow")) ≡ Some meaning.flow
   pub effect : effect_at (at members (codes "effect")) ≡ Some meaning.effect
   pub result : result_at (at members (codes "result")) ≡ Some meaning.result
   pub sinks : positions_at (at members (codes "sink")) ≡ Some meaning.sinks
+  pub marks : marks_at names (at members (codes "marks")) ≡ Some meaning.marks
+  pub category : category_at names (at members (codes "category")) ≡ Some meaning.category
 
 -- the members of a table of the file spell this row
-pub record SpellsRow (members : Members) (row : TableRow) : Type 0 where
+pub record SpellsRow (names : List (List ℕ)) (members : Members) (row : TableRow) : Type 0 where
   pub keys : IsTrue (keys_among row_keys members)
   pub classes : filled_texts (at members (codes "class")) ≡ Some row.classes
   pub method : filled_text (at members (codes "method")) ≡ Some row.method
   pub desc : MayBeDesc (at members (codes "desc")) row.desc
-  pub meaning : SpellsMeaning members row.meaning
+  pub meaning : SpellsMeaning names members row.meaning
 
 -- the members of a table of the file spell this entry; only static methods may be of every class
-pub record SpellsEntry (members : Members) (entry : EntryRow) : Type 0 where
+pub record SpellsEntry (names : List (List ℕ)) (members : Members) (entry : EntryRow) : Type 0 where
   pub keys : IsTrue (keys_among entry_keys members)
   pub class : any_text (at members (codes "class")) ≡ Some entry.class
   pub method : filled_text (at members (codes "method")) ≡ Some entry.method
   pub desc : IsDesc (at members (codes "desc")) entry.desc
   pub is_static : truth_at (at members (codes "static")) ≡ Some entry.is_static
   pub marked : positions_at (at members (codes "marked")) ≡ Some entry.marked
+  pub marks : marks_at names (at members (codes "marks")) ≡ Some entry.marks
   pub every_class : entry.class ≡ codes "*" → entry.is_static ≡ true
 
 -- the tables of an array of tables alone
@@ -176,13 +244,17 @@ tables_at (Some value) = option_and_then tables_in (as_array value)
 
 -- the keys of the document
 abbrev pub top_keys : List (List ℕ)
-top_keys = codes "row" ∷ codes "entry" ∷ []
+top_keys = codes "row" ∷ codes "entry" ∷ codes "category" ∷ []
 
--- the document has no key but those of rows and entries, and these tables there
+-- the document has no key but those of rows, entries and categories, and these tables there
 pub record HasTables (document : Members) (rows entries : List Members) : Type 0 where
   pub keys : IsTrue (keys_among top_keys document)
   pub are_rows : tables_at (at document (codes "row")) ≡ Some rows
   pub are_entries : tables_at (at document (codes "entry")) ≡ Some entries
+
+-- the document has these categories of marks
+abbrev pub HasCategories : (document : Members) (names : List (List ℕ)) → Type 0
+HasCategories document names = categories_at (at document (codes "category")) ≡ Some names
 
 -- each table spells the thing at its place
 abbrev pub SpellAll : {A : Type 0} → (Members → A → Type 0) → List Members → List A → Type 0
@@ -201,29 +273,42 @@ pub record SpellsContent (document : Members) (content : Content) : Type 0 where
   pub rows : List Members
   pub entries : List Members
   pub tables : HasTables document rows entries
-  pub all_rows : SpellAll SpellsRow rows content.rows
-  pub all_entries : SpellAll SpellsEntry entries content.entries
+  pub categories : HasCategories document content.categories
+  pub all_rows : SpellAll (SpellsRow content.categories) rows content.rows
+  pub all_entries : SpellAll (SpellsEntry content.categories) entries content.entries
+
+-- the document has tables, and at the key of categories something else than these
+pub record HasWrongCategories (document : Members) : Type 0 where
+  pub rows : List Members
+  pub entries : List Members
+  pub tables : HasTables document rows entries
+  pub wrong : (names : List (List ℕ)) → HasCategories document names → ⊥
 
 -- the document has tables of rows, the first wrong one of which stands at this place
 pub record HasWrongRow (document : Members) (place : ℕ) : Type 0 where
   pub rows : List Members
   pub entries : List Members
   pub tables : HasTables document rows entries
-  pub wrong : IsFirstWrong SpellsRow rows place
+  pub names : List (List ℕ)
+  pub categories : HasCategories document names
+  pub wrong : IsFirstWrong (SpellsRow names) rows place
 
 -- the document has tables of rows, none of them wrong, and of entries, the first wrong one of which stands at this place
 pub record HasWrongEntry (document : Members) (place : ℕ) : Type 0 where
   pub rows : List Members
   pub entries : List Members
   pub tables : HasTables document rows entries
+  pub names : List (List ℕ)
+  pub categories : HasCategories document names
   pub spelled : List TableRow
-  pub all_rows : SpellAll SpellsRow rows spelled
-  pub wrong : IsFirstWrong SpellsEntry entries place
+  pub all_rows : SpellAll (SpellsRow names) rows spelled
+  pub wrong : IsFirstWrong (SpellsEntry names) entries place
 
--- what is wrong with a document, the first fault by the order: the keys, the rows, the entries; want of memory may always be
+-- what is wrong with a document, the first fault by the order: the keys, the categories, the rows, the entries; want of memory may always be
 abbrev pub IsFaultIn : Members → TableFault → Type 0
 IsFaultIn document Text = ⊥
 IsFaultIn document UnknownKey = (rows : List Members) (entries : List Members) → HasTables document rows entries → ⊥
+IsFaultIn document BadCategory = HasWrongCategories document
 IsFaultIn document (BadRow n) = HasWrongRow document n
 IsFaultIn document (BadEntry n) = HasWrongEntry document n
 IsFaultIn document Memory = Unit {0}

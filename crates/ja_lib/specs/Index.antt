@@ -1,8 +1,8 @@
 -- The places of a table's rows by the classes that they list, so that a look-up need not go over all rows.
 use Rattle.std.specs.Prelude.{◌≡◌, ℕ, suc, ◌&&◌, List, [], ◌∷◌, ◌++◌, Option, Some, None, if◌then◌else◌}
 use Rattle.std.specs.List.{slice_get}
-use Rattle.ja_index.specs.declared.numbers.NumbersByName.{NumbersByName}
-use Rattle.ja_index.specs.Numbers.{numbers_at, number_if}
+use Rattle.ja_base.specs.declared.index.NumbersByName.{NumbersByName}
+use Rattle.ja_base.specs.Index.{numbers_at, number_if}
 use Rattle.ja_ir.specs.declared.row.LibRow.{LibRow}
 use Rattle.ja_lib.specs.declared.row.TableRow.{TableRow}
 use Rattle.ja_lib.specs.Rows.{is_for_method, is_for_desc}

@@ -1,5 +1,5 @@
 -- What the readers of a table file's parts answer.
-use Rattle.std.specs.Prelude.{◌≡◌, List, Option, Some, option_map, Result, Ok, Err}
+use Rattle.std.specs.Prelude.{◌≡◌, ℕ, List, Option, Some, option_map, Result, Ok, Err}
 use Rattle.std.specs.Borrow.{Bor}
 use Rattle.toml.specs.Data.{Data, Members}
 use Rattle.toml.specs.View.{view, items_view}
@@ -10,7 +10,7 @@ use Rattle.ja_lib.specs.declared.spelled.PlacedFault.{PlacedFault}
 use Rattle.ja_lib.specs.declared.spelled.PlacedFault.TheVariants as placed
 use Rattle.ja_lib.specs.declared.fault.TableFault.{TableFault}
 use Rattle.ja_lib.specs.declared.fault.TableFault.TheVariants as faults
-use Rattle.ja_lib.specs.File.{SpellAll, SpellsRow, SpellsEntry, IsFirstWrong, tables_in}
+use Rattle.ja_lib.specs.File.{SpellAll, SpellsRow, SpellsEntry, IsFirstWrong, categories_at, tables_in}
 
 -- the thing that is meant, or that nothing is; want of memory may always be
 abbrev pub Finds : {A : Type 0} → (A → Type 0) → Result A PartFault → Type 0
@@ -37,13 +37,19 @@ abbrev pub AreTables : List Value → List Members → Type 0
 AreTables values tables = tables_in (items_view values) ≡ Some tables
 
 -- the place of the first table that spells no row, or want of memory
-abbrev pub IsRowFault : List Members → TableFault → Type 0
-IsRowFault tables (faults.BadRow place) = IsFirstWrong SpellsRow tables place
-IsRowFault tables faults.Memory = Unit {0}
-IsRowFault tables _ = ⊥
+abbrev pub IsRowFault : (names : List (List ℕ)) → List Members → TableFault → Type 0
+IsRowFault names tables (faults.BadRow place) = IsFirstWrong (SpellsRow names) tables place
+IsRowFault names tables faults.Memory = Unit {0}
+IsRowFault names tables _ = ⊥
 
 -- the place of the first table that spells no entry, or want of memory
-abbrev pub IsEntryFault : List Members → TableFault → Type 0
-IsEntryFault tables (faults.BadEntry place) = IsFirstWrong SpellsEntry tables place
-IsEntryFault tables faults.Memory = Unit {0}
-IsEntryFault tables _ = ⊥
+abbrev pub IsEntryFault : (names : List (List ℕ)) → List Members → TableFault → Type 0
+IsEntryFault names tables (faults.BadEntry place) = IsFirstWrong (SpellsEntry names) tables place
+IsEntryFault names tables faults.Memory = Unit {0}
+IsEntryFault names tables _ = ⊥
+
+-- the value at the key of categories is no list of them, or memory ran out
+abbrev pub IsCategoryFault : Option Data → TableFault → Type 0
+IsCategoryFault value faults.BadCategory = (names : List (List ℕ)) → categories_at value ≡ Some names → ⊥
+IsCategoryFault value faults.Memory = Unit {0}
+IsCategoryFault value _ = ⊥

@@ -3,6 +3,7 @@ ghost use Rattle.ja_ir.specs.declared.row.LibRow.{LibRow};
 ghost use Rattle.ja_lib.specs.Defaults.{row_of, rows_of, taint, requests, responses, writers, statements, strings, builders, objects, taint_rows, servlet_rows, sink_rows, string_rows, builder_rows, object_rows, default_rows, default_entries, default_content, servlet_entry, main_entry};
 ghost use Rattle.ja_lib.specs.Means.{lib_row};
 
+use crate::category::all_marks;
 use crate::{EntryRow, EntryRows, Table, TableRow, TableRows};
 use ja_base::{Memory, Name, Names, Seq};
 use ja_ir::{LibRow, RowEffect, RowFlow, RowResult};
@@ -126,6 +127,8 @@ impl Means {
             effect: self.effect,
             result: self.result,
             sinks,
+            marks: all_marks(alloc, &[])?,
+            category: 0,
         })
     }
 }
@@ -297,6 +300,7 @@ fn servlet_entry(alloc: Global, method: &str, desc: &str) -> Result<EntryRow, Me
         method: name_of(alloc, method)?,
         desc: name_of(alloc, desc)?,
         marked: Seq::new(alloc),
+        marks: all_marks(alloc, &[])?,
     })
 }
 
@@ -309,6 +313,7 @@ fn main_entry(alloc: Global) -> Result<EntryRow, Memory>
         method: name_of(alloc, "main")?,
         desc: name_of(alloc, "([Ljava/lang/String;)V")?,
         marked: Seq::new(alloc),
+        marks: all_marks(alloc, &[])?,
     })
 }
 
@@ -330,5 +335,8 @@ fn default_entries(alloc: Global) -> Result<EntryRows, Memory>
 pub fn default_table(alloc: Global) -> Result<Table, Memory>
     ensures { IfOk result (λ table. table ≡ default_content) }
 {
-    Table::new(alloc, default_rows(alloc)?, default_entries(alloc)?)
+    let categories = Seq::new(alloc);
+    let rows = default_rows(alloc)?;
+    let entries = default_entries(alloc)?;
+    Table::new(alloc, categories, rows, entries)
 }

@@ -1,4 +1,4 @@
-use ja_base::{Name, Numbers, Seq};
+use ja_base::{Flags, Name, Numbers, Seq};
 
 /// Methods that the environment may call.
 #[derive(Drop)]
@@ -11,6 +11,8 @@ pub struct EntryRow {
     pub desc: Name,
     /// The argument positions, a receiver first, at which the environment passes tainted values.
     pub marked: Numbers,
+    /// For each category of marks, whether values that are marked so may be passed there.
+    pub marks: Flags,
 }
 
 /// A list of entry rows.

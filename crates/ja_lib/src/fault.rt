@@ -10,6 +10,10 @@ pub enum TableFault {
     /// A top-level key is unknown, or is no array of tables.
     #[error("the table has a top-level key that is unknown or no array of tables")]
     UnknownKey,
+    /// The list of categories of marks is no array of 1 to 8 distinct names of 1 to 32 bytes from a to z,
+    /// 0 to 9 and _.
+    #[error("the table's list of categories breaks the rules for categories")]
+    BadCategory,
     /// The first row, counted from 0, that breaks the rules for rows.
     #[error("row {row} of the table breaks the rules for rows")]
     BadRow { row: u64 },

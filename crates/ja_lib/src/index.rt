@@ -1,11 +1,10 @@
 //! The places of a table's rows by the classes that they list.
 ghost use Rattle.std.specs.Prelude.{◌≡◌, ◌++◌, List, ℕ, IfOk, OnOk};
-ghost use Rattle.ja_index.specs.Numbers.{numbers_at};
+ghost use Rattle.ja_base.specs.Index.{numbers_at};
 ghost use Rattle.ja_lib.specs.Index.{place_for_each, IsIndexOf};
 
 use crate::TableRow;
-use ja_base::{Memory, Name};
-use ja_index::NumbersByName;
+use ja_base::{Memory, Name, NumbersByName};
 use std::alloc::Global;
 
 /// For each class that rows list, the places of these rows in table order.

@@ -2,6 +2,7 @@
 //! environment may call.
 #![tactic(auto)]
 
+mod category;
 mod default;
 mod entry;
 mod entry_part;
@@ -15,8 +16,6 @@ mod row;
 mod row_part;
 mod spelled;
 mod table;
-#[cfg(test)]
-mod tests;
 mod values;
 
 pub use default::default_table;

@@ -1,21 +1,22 @@
 //! Arrays of tables, each of which spells a thing.
 ghost use Rattle.toml.specs.View.{table_view};
 ghost use Rattle.toml.specs.Data.{Members};
-ghost use Rattle.std.specs.Prelude.{List};
+ghost use Rattle.std.specs.Prelude.{◌≤◌, ℕ, List, length};
 ghost use Rattle.ja_lib.specs.Reading.{Finds, FindsAll, AreTables};
 
 use crate::part::PartFault;
-use ja_base::{Memory, Seq};
+use ja_base::{Memory, Name, Seq};
 use std::alloc::Global;
 use toml::Value;
 
 /// A thing that a table of the file spells.
 pub(crate) trait Spelled {
-    ghost spells: { Members → Self → Type 0 };
+    ghost spells: { List (List ℕ) → Members → Self → Type 0 };
 
-    /// What the table spells.
-    fn read(alloc: Global, members: &toml::Table) -> Result<Self, PartFault>
-        ensures { Finds (spells (table_view members.now)) result };
+    /// What the table spells, where these are the categories of marks.
+    fn read(alloc: Global, categories: &[Name], members: &toml::Table) -> Result<Self, PartFault>
+        requires { length categories.now ≤ 8 }
+        ensures { Finds (spells categories.now (table_view members.now)) result };
 }
 
 /// Why an array of tables is not read.
@@ -41,9 +42,11 @@ impl From<Memory> for PlacedFault {
 /// What the tables spell, in order.
 pub(crate) fn read_all<T: Spelled + Drop>(
     alloc: Global,
+    categories: &[Name],
     values: &[Value],
 ) -> Result<Seq<T>, PlacedFault>
-    ensures { (tables : List Members) → AreTables values.now tables → FindsAll T.spells tables result }
+    requires { length categories.now ≤ 8 }
+    ensures { (tables : List Members) → AreTables values.now tables → FindsAll (T.spells categories.now) tables result }
 {
     let mut things = Seq::new(alloc);
     for (place, value) in values.iter().enumerate() {
@@ -52,7 +55,7 @@ pub(crate) fn read_all<T: Spelled + Drop>(
                 place: place as u64,
             });
         };
-        match T::read(alloc, members) {
+        match T::read(alloc, categories, members) {
             Ok(thing) => things.push(thing)?,
             Err(PartFault::Wrong) => return Err(PlacedFault::Wrong {
                 place: place as u64,

@@ -1,11 +1,12 @@
 ghost use Rattle.std.specs.Prelude.{◌≡◌, ◌&&◌, slice_get, option_copied, IfOk};
+ghost use Rattle.ja_lib.specs.Content.{all_marks};
 ghost use Rattle.ja_lib.specs.Rows.{is_for_method, is_for_desc, row_for};
 ghost use Rattle.ja_lib.specs.Index.{first_at};
 
+use crate::category::all_marks;
 use crate::index::places_by_class;
 use crate::{EntryRows, TableRow, TableRows};
-use ja_base::{Memory, Name};
-use ja_index::NumbersByName;
+use ja_base::{Flags, Memory, Name, Names, NumbersByName};
 use ja_ir::LibRow;
 use std::alloc::Global;
 use std::marker::Model;
@@ -13,6 +14,7 @@ use std::marker::Model;
 /// What the calls of library methods do, and which methods the environment may call.
 #[derive(Drop)]
 pub struct Table {
+    categories: Names,
     rows: TableRows,
     entries: EntryRows,
     index: NumbersByName,
@@ -24,19 +26,29 @@ impl Model for Table {
     ghost Value = { Content };
 
     ghost use Rattle.ja_lib.specs.Index.{IsIndexOf};
+    ghost use Rattle.ja_lib.specs.Content.{IsCategorized};
 
-    ghost view = { λ table. record { rows = table.rows; entries = table.entries } };
+    ghost view = { λ table. record { categories = table.categories; rows = table.rows; entries = table.entries } };
 
-    ghost invariant = { λ table. IsIndexOf table.rows table.index };
+    ghost invariant = { λ table. IsIndexOf table.rows table.index × IsCategorized (record { categories = table.categories; rows = table.rows; entries = table.entries }) };
 }
 
 impl Table {
-    /// The table of these rows and entries.
-    pub(crate) fn new(alloc: Global, rows: TableRows, entries: EntryRows) -> Result<Table, Memory>
-        ensures { IfOk result (λ table. table ≡ record { rows = rows; entries = entries }) }
+    ghost use Rattle.ja_lib.specs.Content.{IsCategorized};
+
+    /// The table of these categories of marks, rows and entries.
+    pub(crate) fn new(
+        alloc: Global,
+        categories: Names,
+        rows: TableRows,
+        entries: EntryRows,
+    ) -> Result<Table, Memory>
+        requires { IsCategorized (record { categories = categories; rows = rows; entries = entries }) }
+        ensures { IfOk result (λ table. table ≡ record { categories = categories; rows = rows; entries = entries }) }
     {
         let index = places_by_class(alloc, rows.as_slice())?;
         Ok(Table {
+            categories,
             rows,
             entries,
             index,
@@ -49,6 +61,22 @@ impl Table {
         ensures { option_copied result ≡ row_for self.now.rows class.now method.now desc.now }
     {
         first_row(&self.rows, self.index.at(class), method, desc)
+    }
+
+    /// The names of the categories of marks, in the table's order; none where there is one category, which has
+    /// no name. It takes no memory.
+    pub fn categories(&self) -> &Names
+        ensures same { result.now ≡ self.now.categories }
+        ensures about { IsCategorized self.now }
+    {
+        &self.categories
+    }
+
+    /// A flag for each category of marks, all of them set.
+    pub fn all_marks(&self, alloc: Global) -> Result<Flags, Memory>
+        ensures { IfOk result (λ marks. marks ≡ all_marks self.now.categories) }
+    {
+        all_marks(alloc, self.categories.as_slice())
     }
 
     /// The entry rows, in the table's order. It takes no memory.

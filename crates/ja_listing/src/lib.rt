@@ -18,6 +18,3 @@ pub use item::{Frame, Head, Item, Items, Line, MemberName, Operand};
 pub use listing::{Listing, Listings};
 pub use number::Number;
 pub use read::read_listing;
-
-#[cfg(test)]
-mod tests;

@@ -7,7 +7,7 @@ use Rattle.ja_ir.specs.declared.head.ClassHead.{ClassHead}
 use Rattle.ja_ir.specs.declared.method.Method.{Method}
 use Rattle.ja_ir.specs.declared.entry.Site.{Site}
 use Rattle.ja_class.specs.Meaning.{ClassSpelled}
-use Rattle.ja_lib.specs.declared.row.TableRow.{TableRow}
+use Rattle.ja_lib.specs.Content.{Content}
 use Rattle.ja_methods.specs.declared.fault.MethodFault.{MethodFault}
 use Rattle.ja_methods.specs.declared.fault.MethodFault.TheVariants as faults
 use Rattle.ja_methods.specs.declared.method.Lowered.{Lowered}
@@ -55,82 +55,82 @@ each-place heads classes c k places same few (place_left {rest = rest} class pla
 each-place heads classes c k places same few (class_passed class at e from) = each-place heads classes (suc c) zero places same few from
 
 -- the answers of the places, in order
-pub answers-from : (rows : List TableRow) (classes : List ClassSpelled) (c k : ℕ) (places : List Place) (answers : List Answer)
-    → PlacesFrom classes c k places → AllZip (IsAnswerAt rows classes) places answers → AnswersFrom rows classes c k answers
-answers-from rows classes c k places [] (all_passed e f) zipped = all_answered e f
-answers-from rows classes c k places (answer ∷ answers) (all_passed e f) zipped = absurd zipped
-answers-from rows classes c k places [] (place_left class place at lt e f from) zipped = absurd zipped
-answers-from rows classes c k places (answer ∷ answers) (place_left {rest = rest} class place at lt e f from) zipped =
+pub answers-from : (table : Content) (classes : List ClassSpelled) (c k : ℕ) (places : List Place) (answers : List Answer)
+    → PlacesFrom classes c k places → AllZip (IsAnswerAt table classes) places answers → AnswersFrom table classes c k answers
+answers-from table classes c k places [] (all_passed e f) zipped = all_answered e f
+answers-from table classes c k places (answer ∷ answers) (all_passed e f) zipped = absurd zipped
+answers-from table classes c k places [] (place_left class place at lt e f from) zipped = absurd zipped
+answers-from table classes c k places (answer ∷ answers) (place_left {rest = rest} class place at lt e f from) zipped =
     let same : answer.place ≡ place = zipped.0.place_is in
     answer_left answer (ap (λ (p : Place). p.class) same ∙ e) (ap (λ (p : Place). p.method) same ∙ f) zipped.0.answer_is
-    (answers-from rows classes c (suc k) rest answers from zipped.1)
-answers-from rows classes c k places answers (class_passed class at e from) zipped = class_answered class at e (answers-from rows classes (suc c) zero places answers from zipped)
+    (answers-from table classes c (suc k) rest answers from zipped.1)
+answers-from table classes c k places answers (class_passed class at e from) zipped = class_answered class at e (answers-from table classes (suc c) zero places answers from zipped)
 
 -- before the first answer
-pub under-way : (rows : List TableRow) (classes : List ClassSpelled) (methods : List Method) (sites : List Site) (answers : List Answer)
-    → AreUpTo rows classes zero zero methods sites → AnswersFrom rows classes zero zero answers → AreUnderWay rows classes methods sites answers
-under-way rows classes methods sites answers up from = record { c = zero; k = zero; so_far = up; answers_left = from }
+pub under-way : (table : Content) (classes : List ClassSpelled) (methods : List Method) (sites : List Site) (answers : List Answer)
+    → AreUpTo table classes zero zero methods sites → AnswersFrom table classes zero zero answers → AreUnderWay table classes methods sites answers
+under-way table classes methods sites answers up from = record { c = zero; k = zero; so_far = up; answers_left = from }
 
 -- what the next answer is, and how to go on after it
-pub record IsNext (rows : List TableRow) (classes : List ClassSpelled) (methods : List Method) (sites : List Site) (answer : Answer) (rest : List Answer) : Type 0 where
-  pub answer_is : IsAnswer rows classes answer
-  pub so_far : AreUpTo rows classes answer.place.class answer.place.method methods sites
-  pub answers_left : AnswersFrom rows classes answer.place.class (suc answer.place.method) rest
+pub record IsNext (table : Content) (classes : List ClassSpelled) (methods : List Method) (sites : List Site) (answer : Answer) (rest : List Answer) : Type 0 where
+  pub answer_is : IsAnswer table classes answer
+  pub so_far : AreUpTo table classes answer.place.class answer.place.method methods sites
+  pub answers_left : AnswersFrom table classes answer.place.class (suc answer.place.method) rest
 
-next-from : (rows : List TableRow) (classes : List ClassSpelled) (c k : ℕ) (methods : List Method) (sites : List Site) (answer : Answer) (rest left : List Answer) → left ≡ answer ∷ rest
-    → AreUpTo rows classes c k methods sites → AnswersFrom rows classes c k left → IsNext rows classes methods sites answer rest
-next-from rows classes c k methods sites answer rest left same up (all_answered e f) = absurd (cc same)
-next-from rows classes c k methods sites answer rest left same up (answer_left {rest = others} other e f is from) =
+next-from : (table : Content) (classes : List ClassSpelled) (c k : ℕ) (methods : List Method) (sites : List Site) (answer : Answer) (rest left : List Answer) → left ≡ answer ∷ rest
+    → AreUpTo table classes c k methods sites → AnswersFrom table classes c k left → IsNext table classes methods sites answer rest
+next-from table classes c k methods sites answer rest left same up (all_answered e f) = absurd (cc same)
+next-from table classes c k methods sites answer rest left same up (answer_left {rest = others} other e f is from) =
     let one : other ≡ answer = cc same in
     let more : others ≡ rest = cc same in
-    let here : IsNext rows classes methods sites other others =
+    let here : IsNext table classes methods sites other others =
     record {
       answer_is = is;
-      so_far = subst (λ (n : ℕ). AreUpTo rows classes n other.place.method methods sites) (sym e) (subst (λ (n : ℕ). AreUpTo rows classes c n methods sites) (sym f) up);
-      answers_left = subst (λ (n : ℕ). AnswersFrom rows classes n (suc other.place.method) others) (sym e) (subst (λ (n : ℕ). AnswersFrom rows classes c (suc n) others) (sym f) from);
+      so_far = subst (λ (n : ℕ). AreUpTo table classes n other.place.method methods sites) (sym e) (subst (λ (n : ℕ). AreUpTo table classes c n methods sites) (sym f) up);
+      answers_left = subst (λ (n : ℕ). AnswersFrom table classes n (suc other.place.method) others) (sym e) (subst (λ (n : ℕ). AnswersFrom table classes c (suc n) others) (sym f) from);
     } in
-    subst (λ (l : List Answer). IsNext rows classes methods sites answer l) more (subst (λ (a : Answer). IsNext rows classes methods sites a others) one here)
-next-from rows classes c k methods sites answer rest left same up (class_answered class at e from) =
-    next-from rows classes (suc c) zero methods sites answer rest left same
-    (past rows classes c class methods sites at (subst (λ (n : ℕ). AreUpTo rows classes c n methods sites) e up)) from
+    subst (λ (l : List Answer). IsNext table classes methods sites answer l) more (subst (λ (a : Answer). IsNext table classes methods sites a others) one here)
+next-from table classes c k methods sites answer rest left same up (class_answered class at e from) =
+    next-from table classes (suc c) zero methods sites answer rest left same
+    (past table classes c class methods sites at (subst (λ (n : ℕ). AreUpTo table classes c n methods sites) e up)) from
 
 -- the next answer of those that are left
-pub next-answer : (rows : List TableRow) (classes : List ClassSpelled) (methods : List Method) (sites : List Site) (answer : Answer) (rest left : List Answer) → left ≡ answer ∷ rest
-    → AreUnderWay rows classes methods sites left → IsNext rows classes methods sites answer rest
-next-answer rows classes methods sites answer rest left same way = next-from rows classes way.c way.k methods sites answer rest left same way.so_far way.answers_left
+pub next-answer : (table : Content) (classes : List ClassSpelled) (methods : List Method) (sites : List Site) (answer : Answer) (rest left : List Answer) → left ≡ answer ∷ rest
+    → AreUnderWay table classes methods sites left → IsNext table classes methods sites answer rest
+next-answer table classes methods sites answer rest left same way = next-from table classes way.c way.k methods sites answer rest left same way.so_far way.answers_left
 
-end-from : (rows : List TableRow) (classes : List ClassSpelled) (c k : ℕ) (methods : List Method) (sites : List Site) (left : List Answer) → left ≡ []
-    → AreUpTo rows classes c k methods sites → AnswersFrom rows classes c k left → AreUpTo rows classes (length classes) zero methods sites
-end-from rows classes c k methods sites left same up (all_answered e f) =
-    subst (λ (n : ℕ). AreUpTo rows classes n zero methods sites) e (subst (λ (n : ℕ). AreUpTo rows classes c n methods sites) f up)
-end-from rows classes c k methods sites left same up (answer_left other e f is from) = absurd (cc same)
-end-from rows classes c k methods sites left same up (class_answered class at e from) =
-    end-from rows classes (suc c) zero methods sites left same
-    (past rows classes c class methods sites at (subst (λ (n : ℕ). AreUpTo rows classes c n methods sites) e up)) from
+end-from : (table : Content) (classes : List ClassSpelled) (c k : ℕ) (methods : List Method) (sites : List Site) (left : List Answer) → left ≡ []
+    → AreUpTo table classes c k methods sites → AnswersFrom table classes c k left → AreUpTo table classes (length classes) zero methods sites
+end-from table classes c k methods sites left same up (all_answered e f) =
+    subst (λ (n : ℕ). AreUpTo table classes n zero methods sites) e (subst (λ (n : ℕ). AreUpTo table classes c n methods sites) f up)
+end-from table classes c k methods sites left same up (answer_left other e f is from) = absurd (cc same)
+end-from table classes c k methods sites left same up (class_answered class at e from) =
+    end-from table classes (suc c) zero methods sites left same
+    (past table classes c class methods sites at (subst (λ (n : ℕ). AreUpTo table classes c n methods sites) e up)) from
 
 -- no answer is left: these are all methods
-pub no-answer-left : (rows : List TableRow) (classes : List ClassSpelled) (methods : List Method) (sites : List Site) (left : List Answer) → left ≡ []
-    → AreUnderWay rows classes methods sites left → AreUpTo rows classes (length classes) zero methods sites
-no-answer-left rows classes methods sites left same way = end-from rows classes way.c way.k methods sites left same way.so_far way.answers_left
+pub no-answer-left : (table : Content) (classes : List ClassSpelled) (methods : List Method) (sites : List Site) (left : List Answer) → left ≡ []
+    → AreUnderWay table classes methods sites left → AreUpTo table classes (length classes) zero methods sites
+no-answer-left table classes methods sites left same way = end-from table classes way.c way.k methods sites left same way.so_far way.answers_left
 
 -- ---- one answer
 
 -- the fault of an answer is want of memory or the refusal of the method
-pub answer-refused : (rows : List TableRow) (classes : List ClassSpelled) (answer : Answer) (fault : MethodFault) (is : IsAnswer rows classes answer) → answer.outcome ≡ Err fault
+pub answer-refused : (table : Content) (classes : List ClassSpelled) (answer : Answer) (fault : MethodFault) (is : IsAnswer table classes answer) → answer.outcome ≡ Err fault
     → (fault ≡ faults.Memory) ⊎ IsRefused (heads_of classes) is.class answer.place.class answer.place.method fault
-answer-refused rows classes answer fault is e =
+answer-refused table classes answer fault is e =
     subst (λ (o : Result Lowered MethodFault). IfErr o (λ f. (f ≡ faults.Memory) ⊎ IsRefused (heads_of classes) is.class answer.place.class answer.place.method f)) e is.refused
 
 -- what an answer says of its method
-pub answer-method : (rows : List TableRow) (classes : List ClassSpelled) (answer : Answer) (lowered : Lowered) (is : IsAnswer rows classes answer) → answer.outcome ≡ Ok lowered
-    → IsMethodOf (heads_of classes) rows is.class answer.place.class answer.place.method lowered.method
-answer-method rows classes answer lowered is e =
-    subst (λ (o : Result Lowered MethodFault). IfOk o (λ l. IsMethodOf (heads_of classes) rows is.class answer.place.class answer.place.method l.method)) e is.method
+pub answer-method : (table : Content) (classes : List ClassSpelled) (answer : Answer) (lowered : Lowered) (is : IsAnswer table classes answer) → answer.outcome ≡ Ok lowered
+    → IsMethodOf (heads_of classes) table is.class answer.place.class answer.place.method lowered.method
+answer-method table classes answer lowered is e =
+    subst (λ (o : Result Lowered MethodFault). IfOk o (λ l. IsMethodOf (heads_of classes) table is.class answer.place.class answer.place.method l.method)) e is.method
 
 -- what an answer says of the sink calls of its method
-pub answer-sites : (rows : List TableRow) (classes : List ClassSpelled) (answer : Answer) (lowered : Lowered) (is : IsAnswer rows classes answer) → answer.outcome ≡ Ok lowered
+pub answer-sites : (table : Content) (classes : List ClassSpelled) (answer : Answer) (lowered : Lowered) (is : IsAnswer table classes answer) → answer.outcome ≡ Ok lowered
     → AreSitesOf (heads_of classes) lowered.method.code lowered.sites
-answer-sites rows classes answer lowered is e =
+answer-sites table classes answer lowered is e =
     subst (λ (o : Result Lowered MethodFault). IfOk o (λ l. AreSitesOf (heads_of classes) l.method.code l.sites)) e is.sites
 
 -- ---- the iterator

@@ -12,7 +12,7 @@ use Rattle.ja_class.specs.declared.class.ClassMethod.{ClassMethod}
 use Rattle.ja_class.specs.ClassFile.{pool_of, AreFields, AreMethods, IsFieldInfo, IsMethodInfo, IsSpelled, MemberInfo}
 use Rattle.ja_class.specs.Meaning.{ClassSpelled}
 use Rattle.ja_hier.specs.LookUps.{fields_of, methods_of}
-use Rattle.ja_outline.proofs.Whole.{AreDescribed}
+use Rattle.ja_heads.proofs.Whole.{AreDescribed}
 use Rattle.ja_lower.specs.Program.{heads_of}
 
 -- a field and a method of a class file

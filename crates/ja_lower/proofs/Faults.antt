@@ -5,8 +5,8 @@ use Rattle.std.proofs.lemmas.Option.{slice_get_within}
 use Rattle.ja_ir.specs.declared.head.ClassHead.{ClassHead}
 use Rattle.ja_ir.specs.declared.method.Method.{Method}
 use Rattle.ja_class.specs.Meaning.{ClassSpelled}
-use Rattle.ja_lib.specs.declared.row.TableRow.{TableRow}
-use Rattle.ja_supers.proofs.Falls.{supertype-target}
+use Rattle.ja_lib.specs.Content.{Content}
+use Rattle.ja_supertypes.proofs.Falls.{supertype-target}
 use Rattle.ja_hier.specs.declared.fault.HierFault.{HierFault}
 use Rattle.ja_hier.specs.declared.fault.HierFault.TheVariants.{PlatformClass, Duplicate, Cycle, CrossPackage, Memory}
 use Rattle.ja_hier.specs.Faults.{IsFault, IsHierarchy}
@@ -35,10 +35,10 @@ hierarchy-refused files classes heads fault (Refused refusal) e is said = of_hie
 hierarchy-refused files classes heads fault NoMemory e is said = tt
 
 -- the first method that is refused refuses the classes
-pub method-refused : MethodOrRefusal → (files : List (List ℕ)) (rows : List TableRow) (classes : List ClassSpelled) (c k : ℕ) (methods : List Method) (class : ClassSpelled) (file : List ℕ) (fault : MethodFault) (found : LowerFault)
-    → IsHierarchy (heads_of classes) → MethodsUpTo (heads_of classes) rows classes c k methods → slice_get classes c ≡ Some class → slice_get files c ≡ Some file
+pub method-refused : MethodOrRefusal → (files : List (List ℕ)) (table : Content) (classes : List ClassSpelled) (c k : ℕ) (methods : List Method) (class : ClassSpelled) (file : List ℕ) (fault : MethodFault) (found : LowerFault)
+    → IsHierarchy (heads_of classes) → MethodsUpTo (heads_of classes) table classes c k methods → slice_get classes c ≡ Some class → slice_get files c ≡ Some file
     → (fault ≡ faults.Memory) ⊎ IsRefused (heads_of classes) class c k fault → IsOrMemory (method_refusal file k fault) found → IsLowerFault files classes found
-method-refused exclude files rows classes c k methods class file fault (Refused refusal) valid up at file-at (inl lost) said = absurd (no-memory file k fault refusal said lost)
-method-refused exclude files rows classes c k methods class file fault (Refused refusal) valid up at file-at (inr refused) said =
-    of_method c k valid (record { class = class; at = at; file = file; file_at = file-at; fault = fault; refused = refused; is = said }) (none-refused exclude files rows classes c k methods up)
-method-refused exclude files rows classes c k methods class file fault NoMemory valid up at file-at either said = tt
+method-refused exclude files table classes c k methods class file fault (Refused refusal) valid up at file-at (inl lost) said = absurd (no-memory file k fault refusal said lost)
+method-refused exclude files table classes c k methods class file fault (Refused refusal) valid up at file-at (inr refused) said =
+    of_method c k valid (record { class = class; at = at; file = file; file_at = file-at; fault = fault; refused = refused; is = said }) (none-refused exclude files table classes c k methods up)
+method-refused exclude files table classes c k methods class file fault NoMemory valid up at file-at either said = tt

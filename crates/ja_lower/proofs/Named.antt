@@ -21,7 +21,7 @@ use Rattle.ja_ir.specs.declared.op.Op.{Op}
 use Rattle.ja_ir.specs.declared.op.Op.TheVariants as ops
 use Rattle.ja_class.specs.ClassFile.{IsSpelled}
 use Rattle.ja_class.specs.Meaning.{ClassSpelled}
-use Rattle.ja_lib.specs.declared.row.TableRow.{TableRow}
+use Rattle.ja_lib.specs.Content.{Content, IsCategorized}
 use Rattle.ja_hier.specs.declared.field_at.FieldAt.{FieldAt}
 use Rattle.ja_hier.specs.declared.field_at.FieldAt.TheVariants.{Program, Library, Missing}
 use Rattle.ja_hier.specs.declared.starts.Member.TheVariants.{Field as OfFields}
@@ -30,13 +30,14 @@ use Rattle.ja_hier.specs.Members.{count_of}
 use Rattle.ja_kinds.specs.declared.state.KindState.{KindState}
 use Rattle.ja_kinds.specs.declared.behaviour.Behaviour.{Behaviour}
 use Rattle.ja_kinds.specs.declared.behaviour.Behaviour.TheVariants as does
-use Rattle.ja_ops.specs.declared.member.MemberRef.{MemberRef}
+use Rattle.ja_operations.specs.declared.member.MemberRef.{MemberRef}
 use Rattle.ja_kinds.specs.Effect.{operand_at}
-use Rattle.ja_ops.specs.Names.{member_in}
-use Rattle.ja_ops.specs.Tokens.{library_token}
-use Rattle.ja_ops.specs.Fields as fields
-use Rattle.ja_ops.specs.Fields.{Accesses, IsFieldAt, static_read, member_read, member_write}
-use Rattle.ja_ops.specs.Operation.{OperatesAs, loaded as loaded_op}
+use Rattle.ja_operations.specs.Names.{member_in}
+use Rattle.ja_operations.specs.Tokens.{library_token}
+use Rattle.ja_operations.specs.Fields as fields
+use Rattle.ja_operations.specs.Fields.{Accesses, IsFieldAt, static_read, member_read, member_write}
+use Rattle.ja_operations.specs.Agreement.{IsRowAbout}
+use Rattle.ja_operations.specs.Operation.{OperatesAs, loaded as loaded_op}
 use Rattle.ja_methods.specs.Method.{HasContent, IsMethodOf}
 use Rattle.ja_methods.specs.Whole.{IsWholeIn}
 use Rattle.ja_lower.specs.Program.{code_length, heads_of}
@@ -99,13 +100,13 @@ module _ (heads : List ClassHead) where
       by_tests false true = tt
       by_tests false false = tt
 
-  module _ (rows : List TableRow) (c : ℕ) (pool : Table) (i : RawInstr) (before : Option KindState) where
+  module _ (rows : Content) (c : ℕ) (pool : Table) (i : RawInstr) (before : Option KindState) where
     named-by : (b : Behaviour) (op : Op) → OperatesAs heads rows c pool i before b op → NamesItsField heads op
     named-by does.Loaded op p = named-as op _ p (loaded-named (tag_at pool (operand_at i 0)))
-    named-by does.GetStatic op p = access-named (member_in pool i) ops.GetStatic (static_read (member_in pool i)) op (λ x lt. lt) p
+    named-by does.GetStatic op p = access-named (member_in pool i) ops.GetStatic (static_read rows.categories (member_in pool i)) op (λ x lt. lt) p
     named-by does.PutStatic op p = write-named (member_in pool i) op p
-    named-by does.GetField op p = access-named (member_in pool i) ops.GetField (member_read (member_in pool i)) op (λ x lt. lt) p
-    named-by does.PutField op p = access-named (member_in pool i) ops.PutField (member_write (member_in pool i)) op (λ x lt. lt) p
+    named-by does.GetField op p = access-named (member_in pool i) ops.GetField (member_read rows.categories (member_in pool i)) op (λ x lt. lt) p
+    named-by does.PutField op p = access-named (member_in pool i) ops.PutField (member_write rows.categories (member_in pool i)) op (λ x lt. lt) p
     named-by does.Invoke op p = named-as op _ p.is tt
     named-by does.InvokeStatic op p = named-as op _ p.is tt
     named-by does.New op p = named-as op _ p tt
@@ -132,7 +133,7 @@ module _ (heads : List ClassHead) where
 
 -- ---- methods
 
-content-size : (heads : List ClassHead) (rows : List TableRow) (class : ClassSpelled) (c m : ℕ) (o : Option Code) (list : List Instr) (handlers : List Handler) → HasContent heads rows class c m o list handlers → length list ≡ code_length o
+content-size : (heads : List ClassHead) (rows : Content) (class : ClassSpelled) (c m : ℕ) (o : Option Code) (list : List Instr) (handlers : List Handler) → HasContent heads rows class c m o list handlers → length list ≡ code_length o
 content-size heads rows class c m None list handlers is = ap (λ (l : List Instr). length l) is.0
 content-size heads rows class c m (Some code) list handlers is = is.instrs.size
 
@@ -141,7 +142,7 @@ there [] k lt = absurd (omega arith)
 there (y ∷ ys) zero lt = (y, refl)
 there (y ∷ ys) (suc k) lt = there ys k (omega arith)
 
-content-named : (heads : List ClassHead) (rows : List TableRow) (class : ClassSpelled) (c m : ℕ) (o : Option Code) (list : List Instr) (handlers : List Handler) → HasContent heads rows class c m o list handlers
+content-named : (heads : List ClassHead) (rows : Content) (class : ClassSpelled) (c m : ℕ) (o : Option Code) (list : List Instr) (handlers : List Handler) → HasContent heads rows class c m o list handlers
     → All (λ instr. NamesItsField heads instr.op) list
 content-named heads rows class c m None list handlers is = subst (λ (l : List Instr). All (λ instr. NamesItsField heads instr.op) l) (sym is.0) (All-nil (λ (instr : Instr). NamesItsField heads instr.op))
 content-named heads rows class c m (Some code) list handlers is = λ k d lt.
@@ -150,10 +151,15 @@ content-named heads rows class c m (Some code) list handlers is = λ k d lt.
     named-by heads rows c class.pool raw.0 _ x.behaviour (get_or list k d).op x.operates
 
 -- each method of classes of the profile is a whole part
-pub whole-parts : ((heads : List ClassHead) (rows : List TableRow) (class : ClassSpelled) → IsSpelled class → (c m : ℕ) (method : Method) → IsMethodOf heads rows class c m method → IsWholeIn heads method)
-    → (rows : List TableRow) (classes : List ClassSpelled) → All IsSpelled classes → AreWholeParts rows classes
-whole-parts law rows classes all c k class method at lt is = record {
-  inside = law (heads_of classes) rows class (subst IsSpelled (get_or_from_slice_get classes c class class at) (all c class (slice_get_within classes c class at))) c k method is;
-  fields = content-named (heads_of classes) rows class c k is.body.code method.code method.handlers is.content;
-  size = content-size (heads_of classes) rows class c k is.body.code method.code method.handlers is.content;
-}
+pub whole-parts : ((heads : List ClassHead) (rows : Content) (class : ClassSpelled) → IsSpelled class → (c m : ℕ) (method : Method) → IsMethodOf heads rows class c m method → IsWholeIn heads method)
+    → ((heads : List ClassHead) (rows : Content) → IsCategorized rows → (class : ClassSpelled) → IsSpelled class → (c m : ℕ) (method : Method) → IsMethodOf heads rows class c m method
+    → All (λ instr. IsRowAbout rows.categories instr.op) method.code)
+    → (rows : Content) → IsCategorized rows → (classes : List ClassSpelled) → All IsSpelled classes → AreWholeParts rows classes
+whole-parts law about rows categorized classes all c k class method at lt is =
+    let spelled : IsSpelled class = subst IsSpelled (get_or_from_slice_get classes c class class at) (all c class (slice_get_within classes c class at)) in
+    record {
+      inside = law (heads_of classes) rows class spelled c k method is;
+      rows = about (heads_of classes) rows categorized class spelled c k method is;
+      fields = content-named (heads_of classes) rows class c k is.body.code method.code method.handlers is.content;
+      size = content-size (heads_of classes) rows class c k is.body.code method.code method.handlers is.content;
+    }

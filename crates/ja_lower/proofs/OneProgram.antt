@@ -14,8 +14,7 @@ use Rattle.ja_ir.specs.declared.method.Method.{Method}
 use Rattle.ja_ir.specs.declared.program.Parts.{Parts}
 use Rattle.ja_class.specs.Meaning.{ClassSpelled}
 use Rattle.ja_lib.specs.Content.{Content}
-use Rattle.ja_lib.specs.declared.row.TableRow.{TableRow}
-use Rattle.ja_supers.specs.Faults.{IsFirst}
+use Rattle.ja_supertypes.specs.Faults.{IsFirst}
 use Rattle.ja_hier.specs.declared.fault.HierFault.{HierFault}
 use Rattle.ja_hier.specs.declared.fault.HierFault.TheVariants.{PlatformClass, Duplicate, Cycle, CrossPackage, Memory}
 use Rattle.ja_hier.specs.Faults.{CrossesPackage, IsFault, IsHierarchy}
@@ -25,9 +24,9 @@ use Rattle.ja_methods.specs.Method.{IsMethodOf}
 use Rattle.ja_methods.specs.Refusal.{IsRefused}
 use Rattle.ja_methods.specs.Sites.{AreSitesOf}
 use Rattle.ja_methods.proofs.InstrSteps.{same-item}
-use Rattle.ja_outline.specs.Classes.{AreClassInfos}
-use Rattle.ja_outline.specs.Entries.{AreEntries}
-use Rattle.ja_outline.specs.Fields.{AreFields}
+use Rattle.ja_heads.specs.Classes.{AreClassInfos}
+use Rattle.ja_heads.specs.Entries.{AreEntries}
+use Rattle.ja_heads.specs.Fields.{AreFields}
 use Rattle.ja_lower.specs.Program.{MethodsUpTo, none_yet, next_method, next_class, SitesUpTo, no_site, next_sites, site_of, heads_of, IsMethodRefused, IsProgramOf, IsRefusedWhole, of_hierarchy, of_method, StandsBefore}
 use Rattle.ja_lower.specs.Refusals.{hier_refusal, method_refusal}
 use Rattle.ja_lower.specs.Steps.{MethodOrRefusal}
@@ -37,8 +36,8 @@ use Rattle.ja_lower.proofs.UpTo.{none-refused}
 -- what the laws below say
 abbrev pub OneMethod : Type 0
 OneMethod =
-    (heads : List ClassHead) (rows : List TableRow) (class : ClassSpelled) (c m : ℕ) (method other : Method)
-    → IsMethodOf heads rows class c m method → IsMethodOf heads rows class c m other → method ≡ other
+    (heads : List ClassHead) (table : Content) (class : ClassSpelled) (c m : ℕ) (method other : Method)
+    → IsMethodOf heads table class c m method → IsMethodOf heads table class c m other → method ≡ other
 
 abbrev pub OneRefusal : Type 0
 OneRefusal =
@@ -71,42 +70,42 @@ one-sites-up-to heads methods m n xs ys (next_sites {m = k} {before = old} metho
     let olds : old ≡ other-old = one-sites-up-to heads methods k l old other-old up other-up same in
     λ i. (olds i) ++ map (site_of (same i)) (owns i)
 
-one-methods : OneMethod → (rows : List TableRow) (classes : List ClassSpelled) (c k d j : ℕ) (xs ys : List Method)
-    → MethodsUpTo (heads_of classes) rows classes c k xs → MethodsUpTo (heads_of classes) rows classes d j ys → c ≡ d → k ≡ j → xs ≡ ys
-one-methods one rows classes c k d j xs ys none_yet none_yet e f = refl
-one-methods one rows classes c k d j xs ys none_yet (next_method {c = d'} {k = j'} {before} class method at lt up is) e f = absurd (omega arith)
-one-methods one rows classes c k d j xs ys none_yet (next_class {c = d'} {before} class at up) e f = absurd (omega arith)
-one-methods one rows classes c k d j xs ys (next_method {c = c'} {k = k'} {before} class method at lt up is) none_yet e f = absurd (omega arith)
-one-methods one rows classes c k d j xs ys (next_method {c = c'} {k = k'} {before = old} class method at lt up is) (next_method {c = d'} {k = j'} {before = other-old} other other-method other-at other-lt other-up other-is) e f =
+one-methods : OneMethod → (table : Content) (classes : List ClassSpelled) (c k d j : ℕ) (xs ys : List Method)
+    → MethodsUpTo (heads_of classes) table classes c k xs → MethodsUpTo (heads_of classes) table classes d j ys → c ≡ d → k ≡ j → xs ≡ ys
+one-methods one table classes c k d j xs ys none_yet none_yet e f = refl
+one-methods one table classes c k d j xs ys none_yet (next_method {c = d'} {k = j'} {before} class method at lt up is) e f = absurd (omega arith)
+one-methods one table classes c k d j xs ys none_yet (next_class {c = d'} {before} class at up) e f = absurd (omega arith)
+one-methods one table classes c k d j xs ys (next_method {c = c'} {k = k'} {before} class method at lt up is) none_yet e f = absurd (omega arith)
+one-methods one table classes c k d j xs ys (next_method {c = c'} {k = k'} {before = old} class method at lt up is) (next_method {c = d'} {k = j'} {before = other-old} other other-method other-at other-lt other-up other-is) e f =
     let place : k' ≡ j' = omega arith in
     let class-same : class ≡ other = same-item classes c' d' class other e at other-at in
-    let moved : IsMethodOf (heads_of classes) rows other d' j' method =
-    subst (λ (n : ℕ). IsMethodOf (heads_of classes) rows other n j' method) e
-    (subst (λ (n : ℕ). IsMethodOf (heads_of classes) rows other c' n method) place
-    (subst (λ (x : ClassSpelled). IsMethodOf (heads_of classes) rows x c' k' method) class-same is)) in
-    let method-same : method ≡ other-method = one (heads_of classes) rows other d' j' method other-method moved other-is in
-    let olds : old ≡ other-old = one-methods one rows classes c' k' d' j' old other-old up other-up e place in
+    let moved : IsMethodOf (heads_of classes) table other d' j' method =
+    subst (λ (n : ℕ). IsMethodOf (heads_of classes) table other n j' method) e
+    (subst (λ (n : ℕ). IsMethodOf (heads_of classes) table other c' n method) place
+    (subst (λ (x : ClassSpelled). IsMethodOf (heads_of classes) table x c' k' method) class-same is)) in
+    let method-same : method ≡ other-method = one (heads_of classes) table other d' j' method other-method moved other-is in
+    let olds : old ≡ other-old = one-methods one table classes c' k' d' j' old other-old up other-up e place in
     λ i. (olds i) ++ (method-same i) ∷ []
-one-methods one rows classes c k d j xs ys (next_method {c = c'} {k = k'} {before} class method at lt up is) (next_class {c = d'} {before = other-before} other other-at other-up) e f = absurd (omega arith)
-one-methods one rows classes c k d j xs ys (next_class {c = c'} {before} class at up) none_yet e f = absurd (omega arith)
-one-methods one rows classes c k d j xs ys (next_class {c = c'} {before} class at up) (next_method {c = d'} {k = j'} {before = other-before} other method other-at lt other-up is) e f = absurd (omega arith)
-one-methods one rows classes c k d j xs ys (next_class {c = c'} {before = old} class at up) (next_class {c = d'} {before = other-old} other other-at other-up) e f =
+one-methods one table classes c k d j xs ys (next_method {c = c'} {k = k'} {before} class method at lt up is) (next_class {c = d'} {before = other-before} other other-at other-up) e f = absurd (omega arith)
+one-methods one table classes c k d j xs ys (next_class {c = c'} {before} class at up) none_yet e f = absurd (omega arith)
+one-methods one table classes c k d j xs ys (next_class {c = c'} {before} class at up) (next_method {c = d'} {k = j'} {before = other-before} other method other-at lt other-up is) e f = absurd (omega arith)
+one-methods one table classes c k d j xs ys (next_class {c = c'} {before = old} class at up) (next_class {c = d'} {before = other-old} other other-at other-up) e f =
     let place : c' ≡ d' = omega arith in
     let class-same : class ≡ other = same-item classes c' d' class other place at other-at in
-    one-methods one rows classes c' (length class.head.methods) d' (length other.head.methods) old other-old up other-up place (ap (λ (x : ClassSpelled). length x.head.methods) class-same)
+    one-methods one table classes c' (length class.head.methods) d' (length other.head.methods) old other-old up other-up place (ap (λ (x : ClassSpelled). length x.head.methods) class-same)
 
-same-parts : (p q : Parts) → p.classes ≡ q.classes → p.methods ≡ q.methods → p.fields ≡ q.fields → p.entries ≡ q.entries → p.sites ≡ q.sites → p ≡ q
-same-parts p q c m f e s = λ i. record { classes = c i; methods = m i; fields = f i; entries = e i; sites = s i }
+same-parts : (p q : Parts) → p.classes ≡ q.classes → p.methods ≡ q.methods → p.fields ≡ q.fields → p.entries ≡ q.entries → p.sites ≡ q.sites → p.categories ≡ q.categories → p ≡ q
+same-parts p q c m f e s n = λ i. record { classes = c i; methods = m i; fields = f i; entries = e i; sites = s i; categories = n i }
 
 -- classes make one program
 pub one-program : OneMethod → OneInfos → OneFields → OneEntries → (files : List (List ℕ)) (classes : List ClassSpelled) (content : Content) (p q : Parts)
     → IsProgramOf files classes content p → IsProgramOf files classes content q → p ≡ q
 one-program one infos fields entries files classes content p q is other =
     let heads : List ClassHead = heads_of classes in
-    let methods : p.methods ≡ q.methods = one-methods one content.rows classes (length classes) zero (length classes) zero p.methods q.methods is.methods other.methods refl refl in
+    let methods : p.methods ≡ q.methods = one-methods one content classes (length classes) zero (length classes) zero p.methods q.methods is.methods other.methods refl refl in
     let moved : SitesUpTo heads q.methods (length q.methods) p.sites = subst (λ (l : List Method). SitesUpTo heads l (length l) p.sites) methods is.sites in
     same-parts p q (infos heads files p.classes q.classes is.infos other.infos) methods (fields heads p.fields q.fields is.fields other.fields) (entries heads content p.entries q.entries is.entries other.entries)
-    (one-sites-up-to heads q.methods (length q.methods) (length q.methods) p.sites q.sites moved other.sites refl)
+    (one-sites-up-to heads q.methods (length q.methods) (length q.methods) p.sites q.sites moved other.sites refl) (is.categories ∙ sym other.categories)
 
 -- ---- the refusal
 
@@ -194,4 +193,4 @@ one-refusal one files classes refusal other (of_method c k valid is before) (of_
 pub program-or-refusal : MethodOrRefusal → (files : List (List ℕ)) (classes : List ClassSpelled) (content : Content) (p : Parts) (refusal : Refusal) → IsProgramOf files classes content p → IsRefusedWhole files classes refusal → ⊥
 program-or-refusal exclude files classes content p refusal is (of_hierarchy fault wrong e) = no-hierarchy files (heads_of classes) fault refusal wrong e is.hierarchy
 program-or-refusal exclude files classes content p refusal is (of_method c k valid refused before) =
-    none-refused exclude files content.rows classes (length classes) zero p.methods is.methods c k refusal (inl (slice_get_within classes c refused.class refused.at)) refused
+    none-refused exclude files content classes (length classes) zero p.methods is.methods c k refusal (inl (slice_get_within classes c refused.class refused.at)) refused

@@ -10,7 +10,7 @@ use Rattle.ja_ir.specs.declared.head.ClassHead.{ClassHead}
 use Rattle.ja_ir.specs.declared.method.Method.{Method}
 use Rattle.ja_ir.specs.declared.entry.Site.{Site}
 use Rattle.ja_class.specs.Meaning.{ClassSpelled}
-use Rattle.ja_lib.specs.declared.row.TableRow.{TableRow}
+use Rattle.ja_lib.specs.Content.{Content}
 use Rattle.ja_hier.specs.declared.starts.Member.TheVariants.{Method as OfMethods}
 use Rattle.ja_hier.specs.LookUps.{method_number}
 use Rattle.ja_hier.specs.Members.{count_of}
@@ -56,13 +56,13 @@ next-number classes c class e =
     let stepped : sum_by (count_of OfMethods) (take (suc c) heads) ≡ sum_by (count_of OfMethods) (take (c + 1) heads) = ap (λ (k : ℕ). sum_by (count_of OfMethods) (take k heads)) one in
     omega (arith, more, read, stepped)
 
-pub number-up-to : (rows : List TableRow) (classes : List ClassSpelled) (c k : ℕ) (methods : List Method) → MethodsUpTo (heads_of classes) rows classes c k methods
+pub number-up-to : (table : Content) (classes : List ClassSpelled) (c k : ℕ) (methods : List Method) → MethodsUpTo (heads_of classes) table classes c k methods
     → length methods ≡ method_number (heads_of classes) c k
-number-up-to rows classes c k methods none_yet = refl
-number-up-to rows classes c k methods (next_method {c = d} {k = j} {before = before} class method at lt up is) =
-    omega (arith, length_push before method, number-up-to rows classes d j before up)
-number-up-to rows classes c k methods (next_class {c = d} {before = before} class at up) =
-    number-up-to rows classes d (length class.head.methods) before up ∙ sym (next-number classes d class at)
+number-up-to table classes c k methods none_yet = refl
+number-up-to table classes c k methods (next_method {c = d} {k = j} {before = before} class method at lt up is) =
+    omega (arith, length_push before method, number-up-to table classes d j before up)
+number-up-to table classes c k methods (next_class {c = d} {before = before} class at up) =
+    number-up-to table classes d (length class.head.methods) before up ∙ sym (next-number classes d class at)
 
 -- the number of a method of a class is below the number of all
 pub number-fits : (classes : List ClassSpelled) (c k : ℕ) (class : ClassSpelled) → slice_get classes c ≡ Some class → k < length class.head.methods
@@ -80,34 +80,34 @@ before-next d j c k (inl lower) = inl (inl lower)
 before-next d j c k (inr same) = elim (cases_lt j k) [ inl less ↦ inl (inr (same.0, less)) | inr other ↦ inr (same.0, omega (arith, same.1)) ]
 
 -- method j of class d stands among the methods at its number
-pub record IsAmong (rows : List TableRow) (classes : List ClassSpelled) (methods : List Method) (d j : ℕ) (class : ClassSpelled) : Type 0 where
+pub record IsAmong (table : Content) (classes : List ClassSpelled) (methods : List Method) (d j : ℕ) (class : ClassSpelled) : Type 0 where
   pub method : Method
   pub at : slice_get methods (method_number (heads_of classes) d j) ≡ Some method
-  pub is : IsMethodOf (heads_of classes) rows class d j method
+  pub is : IsMethodOf (heads_of classes) table class d j method
 
-pub among-up-to : (rows : List TableRow) (classes : List ClassSpelled) (c k : ℕ) (methods : List Method) → MethodsUpTo (heads_of classes) rows classes c k methods
-    → (d j : ℕ) (class : ClassSpelled) → StandsBefore d j c k → slice_get classes d ≡ Some class → j < length class.head.methods → IsAmong rows classes methods d j class
-among-up-to rows classes c k methods none_yet d j class before e lt = absurd (elim before [ inl less ↦ omega arith | inr same ↦ omega (arith, same.1) ])
-among-up-to rows classes c k methods (next_method {c = c'} {k = k'} {before = old} class' method at lt' up is) d j class before e lt =
+pub among-up-to : (table : Content) (classes : List ClassSpelled) (c k : ℕ) (methods : List Method) → MethodsUpTo (heads_of classes) table classes c k methods
+    → (d j : ℕ) (class : ClassSpelled) → StandsBefore d j c k → slice_get classes d ≡ Some class → j < length class.head.methods → IsAmong table classes methods d j class
+among-up-to table classes c k methods none_yet d j class before e lt = absurd (elim before [ inl less ↦ omega arith | inr same ↦ omega (arith, same.1) ])
+among-up-to table classes c k methods (next_method {c = c'} {k = k'} {before = old} class' method at lt' up is) d j class before e lt =
     elim (before-next d j c' k' before) [
       | inl earlier ↦
-          let x : IsAmong rows classes old d j class = among-up-to rows classes c' k' old up d j class earlier e lt in
+          let x : IsAmong table classes old d j class = among-up-to table classes c' k' old up d j class earlier e lt in
           record { method = x.method; at = push-before old method (method_number (heads_of classes) d j) x.method x.at; is = x.is }
       | inr here ↦
           let place : slice_get classes c' ≡ Some class = ap (slice_get classes) (sym here.0) ∙ e in
           let same : class' ≡ class = same_Some class' class (sym at ∙ place) in
           let number : method_number (heads_of classes) d j ≡ length old =
-          ap (λ (n : ℕ). method_number (heads_of classes) n j) here.0 ∙ ap (λ (n : ℕ). method_number (heads_of classes) c' n) here.1 ∙ sym (number-up-to rows classes c' k' old up) in
+          ap (λ (n : ℕ). method_number (heads_of classes) n j) here.0 ∙ ap (λ (n : ℕ). method_number (heads_of classes) c' n) here.1 ∙ sym (number-up-to table classes c' k' old up) in
           record {
             method = method;
             at = push-here old method (method_number (heads_of classes) d j) number;
-            is = subst (λ (n : ℕ). IsMethodOf (heads_of classes) rows class n j method) (sym here.0)
-                (subst (λ (n : ℕ). IsMethodOf (heads_of classes) rows class c' n method) (sym here.1)
-                (subst (λ (x : ClassSpelled). IsMethodOf (heads_of classes) rows x c' k' method) same is));
+            is = subst (λ (n : ℕ). IsMethodOf (heads_of classes) table class n j method) (sym here.0)
+                (subst (λ (n : ℕ). IsMethodOf (heads_of classes) table class c' n method) (sym here.1)
+                (subst (λ (x : ClassSpelled). IsMethodOf (heads_of classes) table x c' k' method) same is));
           }
     ]
-among-up-to rows classes c k methods (next_class {c = c'} {before = old} class' at up) d j class before e lt =
-    among-up-to rows classes c' (length class'.head.methods) old up d j class (earlier before) e lt
+among-up-to table classes c k methods (next_class {c = c'} {before = old} class' at up) d j class before e lt =
+    among-up-to table classes c' (length class'.head.methods) old up d j class (earlier before) e lt
   where
     earlier : StandsBefore d j (suc c') zero → StandsBefore d j c' (length class'.head.methods)
     earlier (inl less) = elim (cases_lt d c') [
@@ -124,11 +124,11 @@ pub no-memory : (file : List ℕ) (k : ℕ) (fault : MethodFault) (refusal : Ref
 no-memory file k fault refusal e same = let f : None ≡ Some refusal = ap (method_refusal file k) (sym same) ∙ e in cc f
 
 -- none of the methods before a place is refused
-pub none-refused : MethodOrRefusal → (files : List (List ℕ)) (rows : List TableRow) (classes : List ClassSpelled) (c k : ℕ) (methods : List Method) → MethodsUpTo (heads_of classes) rows classes c k methods
+pub none-refused : MethodOrRefusal → (files : List (List ℕ)) (table : Content) (classes : List ClassSpelled) (c k : ℕ) (methods : List Method) → MethodsUpTo (heads_of classes) table classes c k methods
     → (d j : ℕ) (other : Refusal) → StandsBefore d j c k → IsMethodRefused files classes d j other → ⊥
-none-refused exclude files rows classes c k methods up d j other before r =
-    let x : IsAmong rows classes methods d j r.class = among-up-to rows classes c k methods up d j r.class before r.at (refused-inside (heads_of classes) r.class d j r.fault r.refused) in
-    exclude (heads_of classes) rows r.class d j x.method r.fault x.is r.refused
+none-refused exclude files table classes c k methods up d j other before r =
+    let x : IsAmong table classes methods d j r.class = among-up-to table classes c k methods up d j r.class before r.at (refused-inside (heads_of classes) r.class d j r.fault r.refused) in
+    exclude (heads_of classes) table r.class d j x.method r.fault x.is r.refused
 
 -- ---- sites
 
@@ -138,11 +138,11 @@ sites-grow heads methods method m sites (next_sites {m = n} {before = before} ot
     next_sites other own (push-before methods method n other at) (sites-grow heads methods method n before up) are
 
 -- one method more, with its sites
-pub more : (rows : List TableRow) (classes : List ClassSpelled) (c k : ℕ) (class : ClassSpelled) (method : Method) (own : List MethodSite) (methods news : List Method) (sites new-sites : List Site)
-    → slice_get classes c ≡ Some class → k < length class.head.methods → AreUpTo rows classes c k methods sites → IsMethodOf (heads_of classes) rows class c k method → AreSitesOf (heads_of classes) method.code own
-    → news ≡ methods ++ method ∷ [] → new-sites ≡ sites ++ map (site_of (length methods)) own → AreUpTo rows classes c (suc k) news new-sites
-more rows classes c k class method own methods news sites new-sites at lt up is are e f =
-    let grown : AreUpTo rows classes c (suc k) (methods ++ method ∷ []) (sites ++ map (site_of (length methods)) own) =
+pub more : (table : Content) (classes : List ClassSpelled) (c k : ℕ) (class : ClassSpelled) (method : Method) (own : List MethodSite) (methods news : List Method) (sites new-sites : List Site)
+    → slice_get classes c ≡ Some class → k < length class.head.methods → AreUpTo table classes c k methods sites → IsMethodOf (heads_of classes) table class c k method → AreSitesOf (heads_of classes) method.code own
+    → news ≡ methods ++ method ∷ [] → new-sites ≡ sites ++ map (site_of (length methods)) own → AreUpTo table classes c (suc k) news new-sites
+more table classes c k class method own methods news sites new-sites at lt up is are e f =
+    let grown : AreUpTo table classes c (suc k) (methods ++ method ∷ []) (sites ++ map (site_of (length methods)) own) =
     record {
       methods_are = next_method class method at lt up.methods_are is;
       sites_are =
@@ -150,15 +150,15 @@ more rows classes c k class method own methods news sites new-sites at lt up is 
           subst (λ (n : ℕ). SitesUpTo (heads_of classes) (methods ++ method ∷ []) n (sites ++ map (site_of (length methods)) own)) size
           (next_sites method own (push-here methods method (length methods) refl) (sites-grow (heads_of classes) methods method (length methods) sites up.sites_are) are);
     } in
-    subst (λ (l : List Site). AreUpTo rows classes c (suc k) news l) (sym f) (subst (λ (l : List Method). AreUpTo rows classes c (suc k) l (sites ++ map (site_of (length methods)) own)) (sym e) grown)
+    subst (λ (l : List Site). AreUpTo table classes c (suc k) news l) (sym f) (subst (λ (l : List Method). AreUpTo table classes c (suc k) l (sites ++ map (site_of (length methods)) own)) (sym e) grown)
 
 -- the next class
-pub past : (rows : List TableRow) (classes : List ClassSpelled) (c : ℕ) (class : ClassSpelled) (methods : List Method) (sites : List Site) → slice_get classes c ≡ Some class
-    → AreUpTo rows classes c (length class.head.methods) methods sites → AreUpTo rows classes (suc c) zero methods sites
-past rows classes c class methods sites at up = record { methods_are = next_class class at up.methods_are; sites_are = up.sites_are }
+pub past : (table : Content) (classes : List ClassSpelled) (c : ℕ) (class : ClassSpelled) (methods : List Method) (sites : List Site) → slice_get classes c ≡ Some class
+    → AreUpTo table classes c (length class.head.methods) methods sites → AreUpTo table classes (suc c) zero methods sites
+past table classes c class methods sites at up = record { methods_are = next_class class at up.methods_are; sites_are = up.sites_are }
 
 -- before the first method
-pub nothing-yet : (rows : List TableRow) (classes : List ClassSpelled) (methods : List Method) (sites : List Site) → methods ≡ [] → sites ≡ [] → AreUpTo rows classes zero zero methods sites
-nothing-yet rows classes methods sites e f =
-    let empty : AreUpTo rows classes zero zero [] [] = record { methods_are = none_yet; sites_are = no_site } in
-    subst (λ (l : List Site). AreUpTo rows classes zero zero methods l) (sym f) (subst (λ (l : List Method). AreUpTo rows classes zero zero l []) (sym e) empty)
+pub nothing-yet : (table : Content) (classes : List ClassSpelled) (methods : List Method) (sites : List Site) → methods ≡ [] → sites ≡ [] → AreUpTo table classes zero zero methods sites
+nothing-yet table classes methods sites e f =
+    let empty : AreUpTo table classes zero zero [] [] = record { methods_are = none_yet; sites_are = no_site } in
+    subst (λ (l : List Site). AreUpTo table classes zero zero methods l) (sym f) (subst (λ (l : List Method). AreUpTo table classes zero zero l []) (sym e) empty)

@@ -20,12 +20,13 @@ use Rattle.ja_ir.specs.declared.method.Instr.{Instr}
 use Rattle.ja_ir.specs.declared.method.Method.{Method}
 use Rattle.ja_ir.specs.declared.program.Parts.{Parts}
 use Rattle.ja_ir.specs.Lookup.{HasCode, code_of, is_abstract}
+use Rattle.ja_ir.specs.Categories.{category_count, count_of_names}
+use Rattle.ja_ir.specs.declared.row.LibRow.{LibRow}
 use Rattle.ja_ir.specs.Operations.{arguments}
-use Rattle.ja_ir.specs.Whole.{IsAnswer, IsDescribed, IsFound, IsWhole, IsWholeMethod, IsWholeSite, LiesIn, NamesAll, NamesCaught, NamesClass, NamesOperands, Runs, SpellsField, Starts, instruction_count as count_of_program}
+use Rattle.ja_ir.specs.Whole.{IsAnswer, IsDescribed, IsFound, IsWhole, IsWholeMethod, IsWholeRow, IsWholeSite, LiesIn, NamesAll, NamesCaught, NamesClass, NamesOperands, Runs, SpellsField, Starts, instruction_count as count_of_program}
 use Rattle.ja_class.specs.declared.class.ClassMethod.{ClassMethod}
 use Rattle.ja_class.specs.Meaning.{ClassSpelled}
-use Rattle.ja_lib.specs.Content.{Content}
-use Rattle.ja_lib.specs.declared.row.TableRow.{TableRow}
+use Rattle.ja_lib.specs.Content.{Content, IsCategorized, IsMeaningAbout}
 use Rattle.ja_hier.specs.declared.starts.Member.TheVariants.{Field as OfFields, Method as OfMethods}
 use Rattle.ja_hier.specs.declared.skip.Skip.TheVariants.{NoMethod}
 use Rattle.ja_hier.specs.LookUps.{method_number, methods_of}
@@ -34,11 +35,11 @@ use Rattle.ja_methods.specs.declared.site.MethodSite.{MethodSite}
 use Rattle.ja_methods.specs.Method.{IsMethodOf}
 use Rattle.ja_methods.specs.Sites.{AreSitesOf, IsSiteAt}
 use Rattle.ja_methods.specs.Whole.{IsWholeIn, LiesWithin, NamesOneOf}
-use Rattle.ja_ops.specs.Agreement.{IsSound}
-use Rattle.ja_ops.specs.Sites.{sinks_of}
-use Rattle.ja_ops.specs.Targets.{FindsFrom, in_program, in_library}
-use Rattle.ja_outline.specs.Fields.{field_of, fields_from}
-use Rattle.ja_outline.proofs.Whole.{AgreesWith, AreDescribed, whole-answer, whole-entries, whole-fields, whole-infos, whole-supers}
+use Rattle.ja_operations.specs.Agreement.{IsSound, IsRowAbout}
+use Rattle.ja_operations.specs.Sites.{sinks_of}
+use Rattle.ja_operations.specs.Targets.{FindsFrom, in_program, in_library}
+use Rattle.ja_heads.specs.Fields.{field_of, fields_from}
+use Rattle.ja_heads.proofs.Whole.{AgreesWith, AreDescribed, whole-answer, whole-entries, whole-fields, whole-infos, whole-inits, whole-supers}
 use Rattle.ja_lower.specs.Program.{AreFew, AreMethods, IsProgramOf, MethodsUpTo, none_yet, next_method, next_class, SitesUpTo, no_site, next_sites, code_length, heads_of, site_of}
 use Rattle.ja_lower.proofs.UpTo.{IsAmong, among-up-to, number-up-to}
 
@@ -50,17 +51,18 @@ NamesItsField heads (GetField field) = field.0 < sum_by (count_of OfFields) head
 NamesItsField heads (PutField field) = field.0 < sum_by (count_of OfFields) heads
 NamesItsField heads _ = Unit {0}
 
--- what is known of a method by itself
-pub record IsWholePart (heads : List ClassHead) (method : Method) (body : ClassMethod) : Type 0 where
+-- what is known of a method by itself, where these are the categories of marks
+pub record IsWholePart (heads : List ClassHead) (names : List (List ℕ)) (method : Method) (body : ClassMethod) : Type 0 where
   pub inside : IsWholeIn heads method
   pub fields : All (λ instr. NamesItsField heads instr.op) method.code
+  pub rows : All (λ instr. IsRowAbout names instr.op) method.code
   pub size : length method.code ≡ code_length body.code
 
 -- each method of the classes is so
-abbrev pub AreWholeParts : List TableRow → List ClassSpelled → Type 0
-AreWholeParts rows classes =
-    (c k : ℕ) (class : ClassSpelled) (method : Method) → slice_get classes c ≡ Some class → k < length class.head.methods → (is : IsMethodOf (heads_of classes) rows class c k method)
-    → IsWholePart (heads_of classes) method is.body
+abbrev pub AreWholeParts : Content → List ClassSpelled → Type 0
+AreWholeParts table classes =
+    (c k : ℕ) (class : ClassSpelled) (method : Method) → slice_get classes c ≡ Some class → k < length class.head.methods → (is : IsMethodOf (heads_of classes) table class c k method)
+    → IsWholePart (heads_of classes) table.categories method is.body
 
 -- the sink calls of a method are whole, and no more than its instructions
 pub record AreWholeSites (p : Parts) (m : ℕ) (method : Method) (own : List MethodSite) : Type 0 where
@@ -81,8 +83,9 @@ fits-below n low (x ∷ own) le pairs above below =
 site-at : (heads : List ClassHead) (code : List Instr) (own : List MethodSite) → AreSitesOf heads code own → (k : ℕ) (d : MethodSite) → k < length own → IsSiteAt heads code (get_or own k d)
 site-at heads code own are k d lt = (are.exact (get_or own k d)).0 (Contains-get_or own k d lt)
 
-own-whole : (heads : List ClassHead) (p : Parts) (m : ℕ) (method : Method) (own : List MethodSite) → slice_get p.methods m ≡ Some method → AreSitesOf heads method.code own → AreWholeSites p m method own
-own-whole heads p m method own found are = record {
+own-whole : (heads : List ClassHead) (p : Parts) (m : ℕ) (method : Method) (own : List MethodSite) → slice_get p.methods m ≡ Some method → All (λ instr. IsRowAbout p.categories instr.op) method.code
+    → AreSitesOf heads method.code own → AreWholeSites p m method own
+own-whole heads p m method own found rows are = record {
   each = λ k d lt.
       let x : IsSiteAt heads method.code (get_or own k d) = site-at heads method.code own are k d lt in
       record {
@@ -92,6 +95,12 @@ own-whole heads p m method own found are = record {
         is_call = x.is_call;
         positions = subst (λ (l : List ℕ). All (λ i. i < arguments x.call) l) (sym x.is_site.positions_are)
             (All-weaker (λ i. nat_lt i (arguments x.call) ≡ true) (λ i. i < arguments x.call) (λ i e. ltb-true i (arguments x.call) e) (sinks_of x.call) (filter_passes (λ i. nat_lt i (arguments x.call)) x.call.row.sinks));
+        category =
+            let here : IsRowAbout p.categories x.instr.op =
+            subst (λ (i : Instr). IsRowAbout p.categories i.op) (get_or_from_slice_get method.code (get_or own k d).index x.instr x.instr x.found)
+            (rows (get_or own k d).index x.instr (slice_get_within method.code (get_or own k d).index x.instr x.found)) in
+            let about : IsMeaningAbout p.categories x.call.row = subst (λ (o : Op). IsRowAbout p.categories o) x.is_call here in
+            subst (λ (c : ℕ). c < count_of_names p.categories) (sym x.category_is) about.category;
       };
   few =
       let below : All (λ site. site.index < length method.code) own =
@@ -119,9 +128,12 @@ found-described p heads call (Some at) agrees finds = let x : (class : List ℕ)
     by class at (in_program {c = c} e f) = whole-answer p heads NoMethod call.name call.desc c at agrees f
     by class at (in_library e) = tt
 
-operation-described : (p : Parts) (heads : List ClassHead) (op : Op) → AgreesWith heads p.methods → IsSound heads op → IsDescribed p op
-operation-described p heads (Call call) agrees sound = (sound.0, found-described p heads call call.found agrees sound.1)
-operation-described p heads _ agrees sound = tt
+row-whole : (p : Parts) (row : LibRow) → IsMeaningAbout p.categories row → IsWholeRow p row
+row-whole p row about = record { marks = about.marks; category = about.category }
+
+operation-described : (p : Parts) (heads : List ClassHead) (op : Op) → AgreesWith heads p.methods → IsSound heads op → IsRowAbout p.categories op → IsDescribed p op
+operation-described p heads (Call call) agrees sound about = (sound.0, found-described p heads call call.found agrees sound.1, row-whole p call.row about)
+operation-described p heads _ agrees sound about = tt
 
 caught-named : (p : Parts) (heads : List ClassHead) (catch : Catch) → length p.classes ≡ length heads → NamesOneOf heads catch → NamesCaught p catch
 caught-named p heads Everything size named = tt
@@ -131,13 +143,13 @@ caught-named p heads InLibrary size named = tt
 -- ---- methods
 
 -- what holds of each method of the classes holds of all
-all-methods : (P : Method → Type 0) (rows : List TableRow) (classes : List ClassSpelled) (c k : ℕ) (methods : List Method)
-    → ((d j : ℕ) (class : ClassSpelled) (method : Method) → slice_get classes d ≡ Some class → j < length class.head.methods → IsMethodOf (heads_of classes) rows class d j method → P method)
-    → MethodsUpTo (heads_of classes) rows classes c k methods → All P methods
-all-methods P rows classes c k methods each none_yet = All-nil P
-all-methods P rows classes c k methods each (next_method {c = d} {k = j} {before = before} class method at lt up is) =
-    All-push P before method (all-methods P rows classes d j before each up) (each d j class method at lt is)
-all-methods P rows classes c k methods each (next_class {c = d} {before = before} class at up) = all-methods P rows classes d (length class.head.methods) before each up
+all-methods : (P : Method → Type 0) (table : Content) (classes : List ClassSpelled) (c k : ℕ) (methods : List Method)
+    → ((d j : ℕ) (class : ClassSpelled) (method : Method) → slice_get classes d ≡ Some class → j < length class.head.methods → IsMethodOf (heads_of classes) table class d j method → P method)
+    → MethodsUpTo (heads_of classes) table classes c k methods → All P methods
+all-methods P table classes c k methods each none_yet = All-nil P
+all-methods P table classes c k methods each (next_method {c = d} {k = j} {before = before} class method at lt up is) =
+    All-push P before method (all-methods P table classes d j before each up) (each d j class method at lt is)
+all-methods P table classes c k methods each (next_class {c = d} {before = before} class at up) = all-methods P table classes d (length class.head.methods) before each up
 
 -- the class of a declared method
 class-of : (classes : List ClassSpelled) (c k : ℕ) (declared : HeadMethod) → slice_get (methods_of (slice_get (heads_of classes) c)) k ≡ Some declared
@@ -146,12 +158,12 @@ class-of [] c k declared e = absurd (cc e)
 class-of (x ∷ classes) zero k declared e = (x, refl, e)
 class-of (x ∷ classes) (suc c) k declared e = class-of classes c k declared e
 
-agrees : (rows : List TableRow) (classes : List ClassSpelled) (p : Parts) → AreMethods (heads_of classes) rows classes p.methods → AreWholeParts rows classes → AgreesWith (heads_of classes) p.methods
-agrees rows classes p are parts c k declared e =
+agrees : (table : Content) (classes : List ClassSpelled) (p : Parts) → AreMethods (heads_of classes) table classes p.methods → AreWholeParts table classes → AgreesWith (heads_of classes) p.methods
+agrees table classes p are parts c k declared e =
     let class : (class : ClassSpelled) × (slice_get classes c ≡ Some class) × (slice_get class.head.methods k ≡ Some declared) = class-of classes c k declared e in
     let inside : k < length class.0.head.methods = slice_get_within class.0.head.methods k declared class.2 in
-    let x : IsAmong rows classes p.methods c k class.0 =
-    among-up-to rows classes (length classes) zero p.methods are c k class.0 (inl (slice_get_within classes c class.0 class.1)) class.1 inside in
+    let x : IsAmong table classes p.methods c k class.0 =
+    among-up-to table classes (length classes) zero p.methods are c k class.0 (inl (slice_get_within classes c class.0 class.1)) class.1 inside in
     let same : x.is.head ≡ declared = same_Some x.is.head declared (sym x.is.declared.head_at ∙ class.2) in
     let flags : x.method.flags ≡ declared.flags = x.is.flags_are ∙ ap (λ (h : HeadMethod). h.flags) same in (
       x.method,
@@ -178,11 +190,11 @@ abbrev bodies_of : Option ClassSpelled → List ClassMethod
 bodies_of None = []
 bodies_of (Some class) = class.methods
 
-instructions-up-to : (rows : List TableRow) (classes : List ClassSpelled) (c k : ℕ) (methods : List Method) → AreWholeParts rows classes → MethodsUpTo (heads_of classes) rows classes c k methods
+instructions-up-to : (table : Content) (classes : List ClassSpelled) (c k : ℕ) (methods : List Method) → AreWholeParts table classes → MethodsUpTo (heads_of classes) table classes c k methods
     → sum_by (λ (method : Method). length method.code) methods
     ≤ sum_by class_count (take c classes) + sum_by (λ (body : ClassMethod). code_length body.code) (take k (bodies_of (slice_get classes c)))
-instructions-up-to rows classes c k methods parts none_yet = omega arith
-instructions-up-to rows classes c k methods parts (next_method {c = d} {k = j} {before = before} class method at lt up is) =
+instructions-up-to table classes c k methods parts none_yet = omega arith
+instructions-up-to table classes c k methods parts (next_method {c = d} {k = j} {before = before} class method at lt up is) =
     let bodies : List ClassMethod = class.methods in
     let size : length method.code ≡ code_length is.body.code = (parts d j class method at lt is).size in
     let inside : j < length bodies = slice_get_within bodies j is.body is.declared.body_at in
@@ -195,26 +207,29 @@ instructions-up-to rows classes c k methods parts (next_method {c = d} {k = j} {
     let here : bodies_of (slice_get classes d) ≡ bodies = ap bodies_of at in
     let so-far : sum_by (λ (m : Method). length m.code) before ≤ sum_by class_count (take d classes) + sum_by (λ (body : ClassMethod). code_length body.code) (take j bodies) =
     subst (λ (l : List ClassMethod). sum_by (λ (m : Method). length m.code) before ≤ sum_by class_count (take d classes) + sum_by (λ (body : ClassMethod). code_length body.code) (take j l)) here
-    (instructions-up-to rows classes d j before parts up) in
+    (instructions-up-to table classes d j before parts up) in
     subst (λ (l : List ClassMethod). sum_by (λ (m : Method). length m.code) (before ++ method ∷ []) ≤ sum_by class_count (take d classes) + sum_by (λ (body : ClassMethod). code_length body.code) (take (suc j) l)) (sym here)
     (omega (arith, sum_by_push (λ (m : Method). length m.code) before method, size, more, read, stepped, so-far))
-instructions-up-to rows classes c k methods parts (next_class {c = d} {before = before} class at up) =
+instructions-up-to table classes c k methods parts (next_class {c = d} {before = before} class at up) =
     let here : bodies_of (slice_get classes d) ≡ class.methods = ap bodies_of at in
     let so-far : sum_by (λ (m : Method). length m.code) before ≤ sum_by class_count (take d classes) + sum_by (λ (body : ClassMethod). code_length body.code) (take (length class.head.methods) class.methods) =
     subst (λ (l : List ClassMethod). sum_by (λ (m : Method). length m.code) before ≤ sum_by class_count (take d classes) + sum_by (λ (body : ClassMethod). code_length body.code) (take (length class.head.methods) l)) here
-    (instructions-up-to rows classes d (length class.head.methods) before parts up) in
+    (instructions-up-to table classes d (length class.head.methods) before parts up) in
     let one : suc d ≡ d + 1 = omega arith in
     let more : sum_by class_count (take (d + 1) classes) ≡ sum_by class_count (take d classes) + class_count (get_or classes d class) = sum_by_more class_count classes d class (slice_get_within classes d class at) in
     let read : class_count (get_or classes d class) ≡ class_count class = ap class_count (get_or_from_slice_get classes d class class at) in
     let stepped : sum_by class_count (take (suc d) classes) ≡ sum_by class_count (take (d + 1) classes) = ap (λ (n : ℕ). sum_by class_count (take n classes)) one in
     omega (arith, sum_by-take-le (λ (body : ClassMethod). code_length body.code) class.methods (length class.head.methods), more, read, stepped, so-far)
 
-sites-up-to : (heads : List ClassHead) (p : Parts) (m : ℕ) (sites : List Site) → SitesUpTo heads p.methods m sites
+sites-up-to : (heads : List ClassHead) (p : Parts) (m : ℕ) (sites : List Site) → All (λ method. All (λ instr. IsRowAbout p.categories instr.op) method.code) p.methods
+    → SitesUpTo heads p.methods m sites
     → All (IsWholeSite p) sites × (length sites ≤ sum_by (λ (method : Method). length method.code) (take m p.methods))
-sites-up-to heads p m sites no_site = (All-nil (IsWholeSite p), omega arith)
-sites-up-to heads p m sites (next_sites {m = n} {before = before} method own at up are) =
-    let rest : All (IsWholeSite p) before × (length before ≤ sum_by (λ (method : Method). length method.code) (take n p.methods)) = sites-up-to heads p n before up in
-    let whole : AreWholeSites p n method own = own-whole heads p n method own at are in
+sites-up-to heads p m sites rows no_site = (All-nil (IsWholeSite p), omega arith)
+sites-up-to heads p m sites rows (next_sites {m = n} {before = before} method own at up are) =
+    let rest : All (IsWholeSite p) before × (length before ≤ sum_by (λ (method : Method). length method.code) (take n p.methods)) = sites-up-to heads p n before rows up in
+    let whole : AreWholeSites p n method own =
+    own-whole heads p n method own at (subst (λ (x : Method). All (λ instr. IsRowAbout p.categories instr.op) x.code) (get_or_from_slice_get p.methods n method method at)
+    (rows n method (slice_get_within p.methods n method at))) are in
     let one : suc n ≡ n + 1 = omega arith in
     let more : sum_by (λ (x : Method). length x.code) (take (n + 1) p.methods) ≡ sum_by (λ (x : Method). length x.code) (take n p.methods) + length (get_or p.methods n method).code =
     sum_by_more (λ (x : Method). length x.code) p.methods n method (slice_get_within p.methods n method at) in
@@ -227,21 +242,25 @@ sites-up-to heads p m sites (next_sites {m = n} {before = before} method own at 
 -- ---- the whole
 
 pub whole-program : (files : List (List ℕ)) (classes : List ClassSpelled) (content : Content) (p : Parts) → AreFew classes → IsProgramOf files classes content p → AreDescribed (heads_of classes)
-    → AreWholeParts content.rows classes → IsWhole p
-whole-program files classes content p few is described parts =
+    → IsCategorized content → AreWholeParts content classes → IsWhole p
+whole-program files classes content p few is described about parts =
     let heads : List ClassHead = heads_of classes in
     let size : length p.classes ≡ length heads = is.infos.size in
     let classes-size : length heads ≡ length classes = length-map classes (λ (class : ClassSpelled). class.head) in
-    let all : (P : Method → Type 0) → ((d j : ℕ) (class : ClassSpelled) (method : Method) → slice_get classes d ≡ Some class → j < length class.head.methods → IsMethodOf heads content.rows class d j method → P method)
+    let all : (P : Method → Type 0) → ((d j : ℕ) (class : ClassSpelled) (method : Method) → slice_get classes d ≡ Some class → j < length class.head.methods → IsMethodOf heads content class d j method → P method)
     → All P p.methods =
-    λ P each. all-methods P content.rows classes (length classes) zero p.methods each is.methods in
-    let agree : AgreesWith heads p.methods = agrees content.rows classes p is.methods parts in
+    λ P each. all-methods P content classes (length classes) zero p.methods each is.methods in
+    let agree : AgreesWith heads p.methods = agrees content classes p is.methods parts in
     let fields : All (λ field. (field.class.0 < length heads) × SpellsField field.desc) p.fields = whole-fields heads p.fields described is.fields in
-    let numbers : length p.methods ≡ method_number heads (length classes) zero = number-up-to content.rows classes (length classes) zero p.methods is.methods in
+    let numbers : length p.methods ≡ method_number heads (length classes) zero = number-up-to content classes (length classes) zero p.methods is.methods in
     let counted : count_of_program p ≤ sum_by class_count (take (length classes) classes) + sum_by (λ (body : ClassMethod). code_length body.code) (take zero (bodies_of (slice_get classes (length classes)))) =
-    instructions-up-to content.rows classes (length classes) zero p.methods parts is.methods in
+    instructions-up-to content classes (length classes) zero p.methods parts is.methods in
+    let names : content.categories ≡ p.categories = sym is.categories in
+    let rows : All (λ method. All (λ instr. IsRowAbout p.categories instr.op) method.code) p.methods =
+    all (λ method. All (λ instr. IsRowAbout p.categories instr.op) method.code) (λ d j class method at lt m.
+    subst (λ (l : List (List ℕ)). All (λ instr. IsRowAbout l instr.op) method.code) names (parts d j class method at lt m).rows) in
     let site : All (IsWholeSite p) p.sites × (length p.sites ≤ sum_by (λ (method : Method). length method.code) (take (length p.methods) p.methods)) =
-    sites-up-to heads p (length p.methods) p.sites is.sites in
+    sites-up-to heads p (length p.methods) p.sites rows is.sites in
     let field-size : length p.fields ≡ sum_by (count_of OfFields) heads = ap (λ (l : List Field). length l) is.fields ∙ field-count zero heads in
     record {
       supers = whole-supers heads files p.classes is.infos;
@@ -249,20 +268,23 @@ whole-program files classes content p few is described parts =
           All-weaker (λ (field : Field). (field.class.0 < length heads) × SpellsField field.desc) (λ field. NamesClass p field.class.0) (λ field x. omega (arith, x.0, size)) p.fields fields;
       method_classes = all (λ method. NamesClass p method.class.0) (λ d j class method at lt m. omega (arith, slice_get_within classes d class at, m.class_is, size, classes-size));
       instructions = all (λ method. All (NamesAll p (length method.code)) method.code) (λ d j class method at lt m k i within.
-          let part : IsWholePart heads method m.body = parts d j class method at lt m in
+          let part : IsWholePart heads content.categories method m.body = parts d j class method at lt m in
           record { next = part.inside.next k i within; operands = operands-named p heads (get_or method.code k i).op size field-size (part.inside.sound k i within) (part.fields k i within) });
       handlers = all (λ method. All (LiesIn p (length method.code)) method.handlers) (λ d j class method at lt m k h within.
           let lies : LiesWithin heads (length method.code) (get_or method.handlers k h) = (parts d j class method at lt m).inside.handlers k h within in
           record { start = lies.start; end = lies.end; target = lies.target; class = caught-named p heads (get_or method.handlers k h).catch size lies.class });
-      entries = whole-entries p heads content p.entries agree size is.entries;
+      inits = whole-inits p heads files p.classes agree is.infos;
+      categories = subst (λ (l : List (List ℕ)). length l ≤ 8) names about.few;
+      entries = whole-entries p heads content p.entries agree size about is.categories is.entries;
       selections = whole-infos p heads files p.classes agree described is.infos;
       described = All-weaker (λ (field : Field). (field.class.0 < length heads) × SpellsField field.desc) (λ field. SpellsField field.desc) (λ field x. x.1) p.fields fields;
       methods = all (IsWholeMethod p) (λ d j class method at lt m.
-          let part : IsWholePart heads method m.body = parts d j class method at lt m in
+          let part : IsWholePart heads content.categories method m.body = parts d j class method at lt m in
           record {
             spelled = part.inside.spelled;
             code = part.inside.code;
-            calls = λ k i within. operation-described p heads (get_or method.code k i).op agree (part.inside.sound k i within);
+            calls = λ k i within. operation-described p heads (get_or method.code k i).op agree (part.inside.sound k i within)
+                (subst (λ (l : List (List ℕ)). IsRowAbout l (get_or method.code k i).op) names (part.rows k i within));
             returns = part.inside.returns;
           });
       sites = site.0;

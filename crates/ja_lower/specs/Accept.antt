@@ -11,7 +11,7 @@ use Rattle.ja_class.specs.declared.fault.ClassFault.{ClassFault}
 use Rattle.ja_class.specs.Meaning.{ClassSpelled}
 use Rattle.ja_class.specs.ClassFile.{IsClass}
 use Rattle.ja_class.specs.ClassFault.{IsFault}
-use Rattle.ja_supers.specs.Faults.{IsFirst}
+use Rattle.ja_supertypes.specs.Faults.{IsFirst}
 use Rattle.ja_lower.specs.Folder.{AreInOrder, IsReadable, IsRefusedUnread, class_files, names_of, table_name}
 use Rattle.ja_lower.specs.Program.{IsProgramOf, IsRefusedWhole}
 use Rattle.ja_lower.specs.Refusals.{class_refusal, table_refusal}

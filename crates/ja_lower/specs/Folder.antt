@@ -6,7 +6,7 @@ use Rattle.std.specs.Cmp.Lexicographic.{slice_cmp}
 use Rattle.ja_base.specs.declared.file.File.{File}
 use Rattle.ja_base.specs.declared.refusal.Refusal.{Refusal}
 use Rattle.ja_base.specs.declared.refusal.Refusal.TheVariants.{Archive, TooManyFiles, FileTooLong, TotalTooLong}
-use Rattle.ja_supers.specs.Faults.{IsFirst, IsNowhere}
+use Rattle.ja_supertypes.specs.Faults.{IsFirst, IsNowhere}
 
 -- the files' names, in order
 abbrev pub names_of : List File → List (List ℕ)

@@ -9,13 +9,12 @@ use Rattle.ja_code.specs.declared.code.Code.{Code}
 use Rattle.ja_class.specs.declared.class.ClassMethod.{ClassMethod}
 use Rattle.ja_class.specs.Meaning.{ClassSpelled}
 use Rattle.ja_lib.specs.Content.{Content}
-use Rattle.ja_lib.specs.declared.row.TableRow.{TableRow}
 use Rattle.ja_hier.specs.declared.fault.HierFault.{HierFault}
 use Rattle.ja_hier.specs.Faults.{IsFault, IsHierarchy}
 use Rattle.ja_hier.specs.Members.{IsNumbered}
-use Rattle.ja_outline.specs.Classes.{AreClassInfos}
-use Rattle.ja_outline.specs.Entries.{AreEntries}
-use Rattle.ja_outline.specs.Fields.{AreFields}
+use Rattle.ja_heads.specs.Classes.{AreClassInfos}
+use Rattle.ja_heads.specs.Entries.{AreEntries}
+use Rattle.ja_heads.specs.Fields.{AreFields}
 use Rattle.ja_methods.specs.declared.fault.MethodFault.{MethodFault}
 use Rattle.ja_methods.specs.declared.site.MethodSite.{MethodSite}
 use Rattle.ja_methods.specs.Method.{IsMethodOf}
@@ -44,20 +43,20 @@ pub record AreFew (classes : List ClassSpelled) : Type 0 where
   pub instructions : instruction_count classes ≤ 2 ^ 26
 
 -- the methods of the classes before class c and the first k of class c, in the order of the classes and, in a class, as declared
-pub data MethodsUpTo (heads : List ClassHead) (rows : List TableRow) (classes : List ClassSpelled) : (c k : ℕ) → List Method → Type 0 where
-  none_yet : MethodsUpTo heads rows classes zero zero []
+pub data MethodsUpTo (heads : List ClassHead) (table : Content) (classes : List ClassSpelled) : (c k : ℕ) → List Method → Type 0 where
+  none_yet : MethodsUpTo heads table classes zero zero []
   next_method : {c k : ℕ} {before : List Method} (class : ClassSpelled) (method : Method) → slice_get classes c ≡ Some class → k < length class.head.methods
-      → MethodsUpTo heads rows classes c k before → IsMethodOf heads rows class c k method → MethodsUpTo heads rows classes c (suc k) (before ++ method ∷ [])
+      → MethodsUpTo heads table classes c k before → IsMethodOf heads table class c k method → MethodsUpTo heads table classes c (suc k) (before ++ method ∷ [])
   next_class : {c : ℕ} {before : List Method} (class : ClassSpelled) → slice_get classes c ≡ Some class
-      → MethodsUpTo heads rows classes c (length class.head.methods) before → MethodsUpTo heads rows classes (suc c) zero before
+      → MethodsUpTo heads table classes c (length class.head.methods) before → MethodsUpTo heads table classes (suc c) zero before
 
 -- the methods of all classes
-abbrev pub AreMethods : List ClassHead → List TableRow → List ClassSpelled → List Method → Type 0
-AreMethods heads rows classes methods = MethodsUpTo heads rows classes (length classes) zero methods
+abbrev pub AreMethods : List ClassHead → Content → List ClassSpelled → List Method → Type 0
+AreMethods heads table classes methods = MethodsUpTo heads table classes (length classes) zero methods
 
 -- a sink call of method m as a site of the program
 abbrev pub site_of : (m : ℕ) → MethodSite → Site
-site_of m site = record { method = record { 0 = m }; index = site.index; positions = site.positions; target = site.target }
+site_of m site = record { method = record { 0 = m }; index = site.index; positions = site.positions; target = site.target; category = site.category }
 
 -- the sites of the first m methods, in the order of the methods and, in a method, of the instructions
 pub data SitesUpTo (heads : List ClassHead) (methods : List Method) : (m : ℕ) → List Site → Type 0 where
@@ -73,10 +72,11 @@ AreSites heads methods sites = SitesUpTo heads methods (length methods) sites
 pub record IsProgramOf (files : List (List ℕ)) (classes : List ClassSpelled) (content : Content) (p : Parts) : Type 0 where
   pub hierarchy : IsHierarchy (heads_of classes)
   pub infos : AreClassInfos (heads_of classes) files p.classes
-  pub methods : AreMethods (heads_of classes) content.rows classes p.methods
+  pub methods : AreMethods (heads_of classes) content classes p.methods
   pub fields : AreFields (heads_of classes) p.fields
   pub entries : AreEntries (heads_of classes) content p.entries
   pub sites : AreSites (heads_of classes) p.methods p.sites
+  pub categories : p.categories ≡ content.categories
 
 -- method k of class c is refused so
 pub record IsMethodRefused (files : List (List ℕ)) (classes : List ClassSpelled) (c k : ℕ) (refusal : Refusal) : Type 0 where

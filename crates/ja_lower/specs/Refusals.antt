@@ -1,7 +1,7 @@
 -- Faults of the parts of a folder as refusals of the folder. Want of memory refuses none.
 use Rattle.std.specs.Prelude.{◌≡◌, ℕ, ◌<◌, List, Option, Some, None, option_map, slice_get}
 use Rattle.ja_base.specs.declared.refusal.Refusal.{Refusal}
-use Rattle.ja_base.specs.declared.refusal.Refusal.TheVariants.{TableText, TableKey, TableRow, TableEntry, End, BadMagic, BadVersion, BadTag, PoolWidth, BadText, BadIndex, BadDesc, BadAttribute, Trailing, BadOpcode, RefusedOpcode, BadBranch, BadHandler, CodeEnd, BadOperand, PlatformClass, Duplicate, Cycle, CrossPackage, Native, FrameSize, StackDepth, KindClash, FallsOff, Reflection, ThreadStart, LibraryStore, NoField}
+use Rattle.ja_base.specs.declared.refusal.Refusal.TheVariants.{TableText, TableKey, TableRow, TableEntry, TableCategory, End, BadMagic, BadVersion, BadTag, PoolWidth, BadText, BadIndex, BadDesc, BadAttribute, Trailing, BadOpcode, RefusedOpcode, BadBranch, BadHandler, CodeEnd, BadOperand, PlatformClass, Duplicate, Cycle, CrossPackage, Native, FrameSize, StackDepth, KindClash, FallsOff, Reflection, ThreadStart, LibraryStore, NoField}
 use Rattle.ja_lower.specs.declared.fault.LowerFault.{LowerFault}
 use Rattle.ja_lower.specs.declared.fault.LowerFault.TheVariants.{Refused, Memory}
 use Rattle.ja_lib.specs.declared.fault.TableFault.{TableFault}
@@ -17,6 +17,7 @@ use Rattle.ja_methods.specs.declared.fault.MethodFault.TheVariants as method
 abbrev pub table_refusal : TableFault → Option Refusal
 table_refusal table.Text = Some TableText
 table_refusal table.UnknownKey = Some TableKey
+table_refusal table.BadCategory = Some TableCategory
 table_refusal (table.BadRow row) = Some (TableRow row)
 table_refusal (table.BadEntry entry) = Some (TableEntry entry)
 table_refusal table.Memory = None

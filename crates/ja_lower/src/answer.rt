@@ -35,7 +35,7 @@ pub(crate) fn answers_of<R: Threads + Sync>(
     requires heads { hier.now ≡ heads_of classes.now }
     requires few { length classes.now ≤ 2 ^ 26 }
     requires places { PlacesFrom classes.now zero zero places.now }
-    ensures { IfOk result (λ answers. AnswersFrom table.now.rows classes.now zero zero answers.items) }
+    ensures { IfOk result (λ answers. AnswersFrom table.now classes.now zero zero answers.items) }
 {
     let places = places.as_slice();
     let answers = places
@@ -44,7 +44,7 @@ pub(crate) fn answers_of<R: Threads + Sync>(
         .map(
             |place: &Place| -> Answer
                 requires { CanAnswer hier.now classes.now place.now }
-                ensures { IsAnswerAt table.entry.now.rows classes.entry.now place.now result }
+                ensures { IsAnswerAt table.entry.now classes.entry.now place.now result }
             { answer_at(alloc, hier, classes, table, *place) },
         )
         .collect(rt, alloc)?;
@@ -54,7 +54,7 @@ pub(crate) fn answers_of<R: Threads + Sync>(
 /// What becomes of a method.
 fn answer_at(alloc: Global, hier: &Hier, classes: &[Class], table: &Table, place: Place) -> Answer
     requires { CanAnswer hier.now classes.now place }
-    ensures { IsAnswerAt table.now.rows classes.now place result }
+    ensures { IsAnswerAt table.now classes.now place result }
 {
     let class = &classes[place.class as usize];
     let outcome = lower_method(

@@ -9,9 +9,9 @@ ghost use Rattle.ja_lower.specs.Folder.{AreNamedApart};
 ghost use Rattle.ja_lower.specs.Program.{IsProgramOf, IsRefusedWhole};
 
 use ja_class::law_spelled_or_refused;
+use ja_heads::law_one_outline;
 use ja_lib::law_one_answer;
 use ja_methods::law_one_method;
-use ja_outline::law_one_outline;
 
 /// Classes make one program at most, have one refusal at most, and never both.
 pub fn law_one_program()

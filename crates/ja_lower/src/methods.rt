@@ -42,7 +42,7 @@ pub(crate) fn code_of<R: Threads + Sync>(
     requires files { length files.now ≡ length classes.now }
     requires few { length classes.now ≤ 2 ^ 26 }
     requires numbered { sum_by (count_of OfMethods) (heads_of classes.now) ≤ 2 ^ 26 }
-    ensures methods { IfOk result (λ code. AreMethods (heads_of classes.now) table.now.rows classes.now code.methods) }
+    ensures methods { IfOk result (λ code. AreMethods (heads_of classes.now) table.now classes.now code.methods) }
     ensures sites { IfOk result (λ code. AreSites (heads_of classes.now) code.methods code.sites) }
     ensures refused { IfErr result (IsLowerFault files.now classes.now) }
 {
@@ -70,9 +70,9 @@ fn add_answer(
     requires valid { IsHierarchy (heads_of classes.now) }
     requires files { length files.now ≡ length classes.now }
     requires numbered { sum_by (count_of OfMethods) (heads_of classes.now) ≤ 2 ^ 26 }
-    requires answer { IsAnswer table.now.rows classes.now answer }
-    requires so_far { AreUpTo table.now.rows classes.now answer.place.class answer.place.method code.old.methods code.old.sites }
-    ensures added { OnOk result (AreUpTo table.now.rows classes.now answer.place.class (suc answer.place.method) code.new.methods code.new.sites) }
+    requires answer { IsAnswer table.now classes.now answer }
+    requires so_far { AreUpTo table.now classes.now answer.place.class answer.place.method code.old.methods code.old.sites }
+    ensures added { OnOk result (AreUpTo table.now classes.now answer.place.class (suc answer.place.method) code.new.methods code.new.sites) }
     ensures refused { IfErr result (IsLowerFault files.now classes.now) }
 {
     law_one_method();
@@ -125,6 +125,7 @@ fn site_of(alloc: Global, m: MethodId, site: &MethodSite) -> Result<Site, Memory
         index: site.index,
         positions,
         target,
+        category: site.category,
     })
 }
 

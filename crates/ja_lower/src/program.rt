@@ -11,14 +11,14 @@ use crate::LowerFault;
 use crate::law::law_one_program;
 use crate::methods::code_of;
 use crate::refusal::hier_fault;
-use ja_base::{Memory, Names, Seq};
+use ja_base::{Memory, Name, Names, Seq};
 use ja_class::Class;
+use ja_heads::{class_infos, entries, fields};
 use ja_hier::{Hier, hierarchy};
 use ja_ir::{ClassHead, Program};
 use ja_lib::Table;
 use ja_methods::law_whole_method;
-use ja_outline::{class_infos, entries, fields};
-use ja_supers::copy_head;
+use ja_supertypes::copy_head;
 use std::alloc::Global;
 use std::thread::Threads;
 
@@ -108,7 +108,8 @@ fn program_or_refusal<R: Threads + Sync>(
     let infos = class_infos(alloc, &hier, names)?;
     let fields = fields(alloc, &hier)?;
     let entries = entries(alloc, &hier, t)?;
-    Ok(Program::new(infos, code.methods, fields, entries, code.sites))
+    let categories = copy_names(alloc, t.categories().as_slice())?;
+    Ok(Program::new(infos, code.methods, fields, entries, code.sites, categories))
 }
 
 /// The hierarchy of the classes.
@@ -138,4 +139,15 @@ fn heads_of(alloc: Global, classes: &[Class]) -> Result<Seq<ClassHead>, Memory>
         heads.push(head)?;
     }
     Ok(heads)
+}
+
+/// The same names.
+fn copy_names(alloc: Global, names: &[Name]) -> Result<Names, Memory>
+    ensures { IfOk result (λ copy. copy ≡ names.now) }
+{
+    let mut copy = Seq::new(alloc);
+    for name in names {
+        copy.push(name.copy(alloc)?)?;
+    }
+    Ok(copy)
 }

@@ -5,7 +5,7 @@ use Rattle.std.proofs.lemmas.List.{length-replicate}
 use Rattle.std.proofs.lemmas.List.Elements.{Contains-append_left, Contains-push, Contains-push_cases}
 use Rattle.ja_machine.specs.declared.heap.Object.{Object}
 use Rattle.ja_machine.specs.Reach.{links, Linked, Path, here, along, Reaches, IsClosed}
-use Rattle.ja_machine.specs.Search.{Seen, meets_place, meets_object, begun, Tells}
+use Rattle.ja_machine.specs.InnerSearch.{Seen, meets_place, meets_object, begun, Tells}
 use Rattle.ja_machine.proofs.Meets.{has, missing, Met, object-met, begun-met}
 
 -- a link more at the end of a path

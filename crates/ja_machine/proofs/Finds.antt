@@ -1,24 +1,15 @@
 -- The machine's tests answer the relations: no path needs more links than there are objects.
 use Rattle.std.proofs.Common.{◌≡◌, ℕ, zero, suc, ◌+◌, ◌<◌, ◌≤◌, ◌⊎◌, inl, inr, ◌==◌, Bool, true, false, ◌||◌, List, [], ◌∷◌, length, refl, sym, ◌∙◌, ap, subst, arith, eq-eqb}
-use Rattle.std.specs.Prelude.{◌↔◌, Option, Some, None, Contains, slice_get}
+use Rattle.std.specs.Prelude.{◌↔◌, Option, Some, None, Contains, slice_get, if◌then◌else◌}
 use Rattle.std.specs.List.{list_any}
 use Rattle.std.proofs.lemmas.Bool.{eqb-true}
 use Rattle.ja_machine.specs.declared.heap.Value.{Value}
 use Rattle.ja_machine.specs.declared.heap.Value.TheVariants.{Prim, Null, Ref}
+use Rattle.ja_machine.specs.declared.heap.FieldValue.{FieldValue}
 use Rattle.ja_machine.specs.declared.heap.Object.{Object}
-use Rattle.ja_machine.specs.Reach.{links, Linked, Path, here, along, finds, out_of, next_of, is_reached, marks, is_marked_at, is_tainted, IsTainted, marked, reaches}
-
-or-left : (a b : Bool) → a ≡ true → (a || b) ≡ true
-or-left true b e = refl
-or-left false b e = cc
-
-or-right : (a b : Bool) → b ≡ true → (a || b) ≡ true
-or-right true b e = refl
-or-right false b e = e
-
-or-split : (a b : Bool) → (a || b) ≡ true → (a ≡ true) ⊎ (b ≡ true)
-or-split true b e = inl refl
-or-split false b e = inr e
+use Rattle.ja_machine.specs.Marks.{has, none, union}
+use Rattle.ja_machine.specs.Reach.{links, Linked, Path, here, along, mark_of, is_marked, finds, out_of, next_of, is_reached, field_marks, marks_of, marks_reached, is_tainted, IsTainted, marked, reaches}
+use Rattle.ja_machine.proofs.Marks.{or-left, or-right, or-split, has-none, has-union, union-left, union-right, union-split}
 
 -- an element passes the test
 pub any-in : (t : ℕ → Bool) (xs : List ℕ) → list_any t xs ≡ true → (x : ℕ) × Contains xs x × (t x ≡ true)
@@ -185,21 +176,83 @@ is_reached-says out heap a b = (
   λ p. path-found out heap (λ c. c == b) a b p (eq-eqb b b refl),
 )
 
-pub is_tainted-says : (heap : List Object) (v : Value) → (is_tainted heap v ≡ true) ↔ IsTainted heap v
-is_tainted-says heap (Prim true) = (λ h. marked, λ x. refl)
-is_tainted-says heap (Prim false) = (λ h. cc, λ x. elim x [ ])
-is_tainted-says heap Null = (λ h. cc, λ x. elim x [ ])
-is_tainted-says heap (Ref place) = (
-  λ h. (let r : (b : ℕ) × Path links heap place b × (is_marked_at heap b ≡ true) = finds-path links heap (is_marked_at heap) (length heap) place h in there r.0 r.1 r.2),
-  λ x. back place x,
-)
-  where
-    there : (b : ℕ) → Path links heap place b → is_marked_at heap b ≡ true → IsTainted heap (Ref place)
-    there b p h = by (slice_get heap b) refl h
-      where
-        by : (o : Option Object) → slice_get heap b ≡ o → marks o ≡ true → IsTainted heap (Ref place)
-        by None e h = cc
-        by (Some o) e h = reaches place b o p e h
+-- the marks in fields, category by category
+fields-say : (c : ℕ) (fields : List FieldValue) → has (field_marks fields) c ≡ list_any (λ (f : FieldValue). has (mark_of f.value) c) fields
+fields-say c [] = has-none c
+fields-say c (f ∷ fields) = has-union (mark_of f.value) (field_marks fields) c ∙ ap (λ (b : Bool). has (mark_of f.value) c || b) (fields-say c fields)
 
-    back : (place : ℕ) → IsTainted heap (Ref place) → is_tainted heap (Ref place) ≡ true
-    back place (reaches _ a o p e m) = path-found links heap (is_marked_at heap) place a p (subst (λ (x : Option Object). marks x ≡ true) (sym e) m)
+-- the marks of an object, category by category
+pub marks-say : (c : ℕ) (o : Object) → has (marks_of o) c ≡ is_marked c o
+marks-say c o = has-union o.mark (field_marks o.fields) c ∙ ap (λ (b : Bool). has o.mark c || b) (fields-say c o.fields)
+
+-- one of the objects, whose places are k and the following, is reached from a and has a mark of the category
+record MarkedFrom (c : ℕ) (heap : List Object) (a k : ℕ) (objects : List Object) : Type 0 where
+  place : ℕ
+  object : Object
+  found : slice_get objects place ≡ Some object
+  is_found : is_reached links heap a (k + place) ≡ true
+  marked_there : has (marks_of object) c ≡ true
+
+module _ (c : ℕ) (heap : List Object) (a : ℕ) where
+  later-marked : (k : ℕ) (o : Object) (objects : List Object) → MarkedFrom c heap a (k + 1) objects → MarkedFrom c heap a k (o ∷ objects)
+  later-marked k o objects m = record {
+    place = suc m.place;
+    object = m.object;
+    found = m.found;
+    is_found = subst (λ (n : ℕ). is_reached links heap a n ≡ true) (let e : k + 1 + m.place ≡ k + suc m.place = omega arith in e) m.is_found;
+    marked_there = m.marked_there;
+  }
+
+  marked-from : (k : ℕ) (objects : List Object) → has (marks_reached heap a k objects) c ≡ true → MarkedFrom c heap a k objects
+  marked-from k [] h = let no-one : has none c ≡ false = has-none c in cc
+  marked-from k (o ∷ objects) h = by (is_reached links heap a k) refl h (λ r. later-marked k o objects (marked-from (k + 1) objects r))
+    where
+      by : (b : Bool) → is_reached links heap a k ≡ b → has (if b then union (marks_of o) (marks_reached heap a (k + 1) objects) else marks_reached heap a (k + 1) objects) c ≡ true
+          → (has (marks_reached heap a (k + 1) objects) c ≡ true → MarkedFrom c heap a k (o ∷ objects)) → MarkedFrom c heap a k (o ∷ objects)
+      by false e h further = further h
+      by true e h further = elim (union-split (marks_of o) (marks_reached heap a (k + 1) objects) c h) [
+        | inl m ↦ record {
+          place = 0;
+          object = o;
+          found = refl;
+          is_found = subst (λ (n : ℕ). is_reached links heap a n ≡ true) (let q : k ≡ k + 0 = omega arith in q) e;
+          marked_there = m;
+        }
+        | inr r ↦ further r
+      ]
+
+  from-later : (k : ℕ) (o : Object) (objects : List Object) → has (marks_reached heap a (k + 1) objects) c ≡ true → has (marks_reached heap a k (o ∷ objects)) c ≡ true
+  from-later k o objects h = by (is_reached links heap a k)
+    where
+      by : (b : Bool) → has (if b then union (marks_of o) (marks_reached heap a (k + 1) objects) else marks_reached heap a (k + 1) objects) c ≡ true
+      by false = h
+      by true = union-right (marks_of o) (marks_reached heap a (k + 1) objects) c h
+
+  from-marked : (k : ℕ) (objects : List Object) (place : ℕ) (object : Object) → slice_get objects place ≡ Some object → is_reached links heap a (k + place) ≡ true → has (marks_of object) c ≡ true → has (marks_reached heap a k objects) c ≡ true
+  from-marked k [] place x e r m = cc
+  from-marked k (o ∷ objects) zero x e r m =
+      let same : o ≡ x = cc in
+      let here : is_reached links heap a k ≡ true = subst (λ (n : ℕ). is_reached links heap a n ≡ true) (let q : k + 0 ≡ k = omega arith in q) r in
+      subst (λ (b : Bool). has (if b then union (marks_of o) (marks_reached heap a (k + 1) objects) else marks_reached heap a (k + 1) objects) c ≡ true) (sym here)
+      (union-left (marks_of o) (marks_reached heap a (k + 1) objects) c (subst (λ (y : Object). has (marks_of y) c ≡ true) (sym same) m))
+  from-marked k (o ∷ objects) (suc place) x e r m =
+      from-later k o objects (from-marked (k + 1) objects place x e (subst (λ (n : ℕ). is_reached links heap a n ≡ true) (let q : k + suc place ≡ k + 1 + place = omega arith in q) r) m)
+
+pub is_tainted-says : (c : ℕ) (heap : List Object) (v : Value) → (is_tainted c heap v ≡ true) ↔ IsTainted c heap v
+is_tainted-says c heap (Prim mark) = (λ h. marked mark h, λ x. prim mark x)
+  where
+    prim : (mark : ℕ) → IsTainted c heap (Prim mark) → has mark c ≡ true
+    prim mark (marked _ h) = h
+is_tainted-says c heap Null = (λ h. (let no-one : has none c ≡ false = has-none c in cc), λ x. elim x [ ])
+is_tainted-says c heap (Ref place) = (λ h. there (marked-from c heap place 0 heap h), λ x. back place x)
+  where
+    there : MarkedFrom c heap place 0 heap → IsTainted c heap (Ref place)
+    there m =
+        let same : 0 + m.place ≡ m.place = omega arith in
+        reaches place m.place m.object ((is_reached-says links heap place m.place).0 (subst (λ (n : ℕ). is_reached links heap place n ≡ true) same m.is_found)) m.found
+        (sym (marks-say c m.object) ∙ m.marked_there)
+
+    back : (place : ℕ) → IsTainted c heap (Ref place) → has (marks_reached heap place 0 heap) c ≡ true
+    back place (reaches _ a o p e m) =
+        let same : a ≡ 0 + a = omega arith in
+        from-marked c heap place 0 heap a o e (subst (λ (n : ℕ). is_reached links heap place n ≡ true) same ((is_reached-says links heap place a).1 p)) (marks-say c o ∙ m)

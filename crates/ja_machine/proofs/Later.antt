@@ -1,10 +1,12 @@
--- What comes after a world stays so through each change of it.
+-- What comes after a store stays so through each change of it.
 use Rattle.std.proofs.Common.{◌≡◌, ℕ, zero, suc, ◌<◌, ◌≤◌, ◌⊎◌, ⊎_elim, inl, inr, List, [], ◌∷◌, ◌++◌, length, Contains, refl, sym, ◌∙◌, ap, subst, append_assoc, append-nil, get_or, arith}
 use Rattle.std.specs.Prelude.{Some, None, slice_get, slice_set}
 use Rattle.std.proofs.lemmas.List.Elements.{Contains-push, Contains-append_left, Contains-append_right}
 use Rattle.std.proofs.lemmas.Option.{none-some, same_Some, slice_get_within, slice_get_cases}
+use Rattle.ja_ir.specs.declared.program.Parts.{Parts}
 use Rattle.ja_machine.specs.declared.heap.Object.{Object}
-use Rattle.ja_machine.specs.State.{World}
+use Rattle.ja_machine.specs.State.{Store}
+use Rattle.ja_machine.specs.Objects.{new_object}
 use Rattle.ja_machine.specs.Laws.{BeginsWith, Becomes, IsStill, IsLater}
 use Rattle.ja_machine.proofs.Kept.{IsKept}
 
@@ -12,45 +14,45 @@ pub begins-after : {X : Type 0} (a b c : List X) → BeginsWith a b → BeginsWi
 begins-after {X} a b c x y = (x.0 ++ y.0, y.1 ∙ (ap (λ (l : List X). l ++ y.0) x.1 ∙ append_assoc a x.0 y.0))
 
 pub becomes-itself : (o : Object) → Becomes o o
-becomes-itself o = record { token = refl; fields = refl; mark = λ h. h; bag = ([], sym (append-nil o.bag)) }
+becomes-itself o = record { token = refl; fields = refl; mark = λ c h. h; bag = ([], sym (append-nil o.bag)) }
 
 pub becomes-after : (a b c : Object) → Becomes a b → Becomes b c → Becomes a c
 becomes-after a b c x y = record {
   token = y.token ∙ x.token;
   fields = y.fields ∙ x.fields;
-  mark = λ h. y.mark (x.mark h);
+  mark = λ c h. y.mark c (x.mark c h);
   bag = begins-after a.bag b.bag c.bag x.bag y.bag;
 }
 
 -- what stands in a list stands in a longer one
-get-longer : {X : Type 0} (xs : List X) (y : X) (k : ℕ) (x : X) → slice_get xs k ≡ Some x → slice_get (xs ++ y ∷ []) k ≡ Some x
+pub get-longer : {X : Type 0} (xs : List X) (y : X) (k : ℕ) (x : X) → slice_get xs k ≡ Some x → slice_get (xs ++ y ∷ []) k ≡ Some x
 get-longer [] y k x e = absurd (none-some x e)
 get-longer (z ∷ xs) y zero x e = e
 get-longer (z ∷ xs) y (suc k) x e = get-longer xs y k x e
 
 -- an item that was set where one was
-get-set : {X : Type 0} (xs : List X) (k : ℕ) (x y : X) → slice_get xs k ≡ Some x → slice_get (slice_set xs k y) k ≡ Some y
+pub get-set : {X : Type 0} (xs : List X) (k : ℕ) (x y : X) → slice_get xs k ≡ Some x → slice_get (slice_set xs k y) k ≡ Some y
 get-set [] k x y e = absurd (none-some x e)
 get-set (z ∷ xs) zero x y e = refl
 get-set (z ∷ xs) (suc k) x y e = get-set xs k x y e
 
 -- two places are one or not
-same-or-not : (j k : ℕ) → (j ≡ k) ⊎ (j ≡ k → ⊥)
+pub same-or-not : (j k : ℕ) → (j ≡ k) ⊎ (j ≡ k → ⊥)
 same-or-not zero zero = inl refl
 same-or-not zero (suc k) = inr (λ e. omega (arith, e))
 same-or-not (suc j) zero = inr (λ e. omega (arith, e))
 same-or-not (suc j) (suc k) = ⊎_elim (λ e. inl (ap suc e)) (λ n. inr (λ e. n (omega (arith, e)))) (same-or-not j k)
 
 -- the other items stay
-get-others : {X : Type 0} (xs : List X) (k j : ℕ) (y : X) → (j ≡ k → ⊥) → slice_get (slice_set xs k y) j ≡ slice_get xs j
+pub get-others : {X : Type 0} (xs : List X) (k j : ℕ) (y : X) → (j ≡ k → ⊥) → slice_get (slice_set xs k y) j ≡ slice_get xs j
 get-others [] k j y n = refl
 get-others (z ∷ xs) zero zero y n = absurd (n refl)
 get-others (z ∷ xs) zero (suc j) y n = refl
 get-others (z ∷ xs) (suc k) zero y n = refl
 get-others (z ∷ xs) (suc k) (suc j) y n = get-others xs k j y (λ e. n (ap suc e))
 
--- a world comes after itself
-pub later-itself : (w : World) → IsLater w w
+-- a store comes after itself
+pub later-itself : (w : Store) → IsLater w w
 later-itself w = record {
   objects = λ r o e. record { new = o; found = e; became = becomes-itself o };
   writes = [];
@@ -90,24 +92,14 @@ not-before b k r n c = n (Contains-append_left b (k ∷ []) r c)
 not-last : (b : List ℕ) (k r : ℕ) → (Contains (b ++ k ∷ []) r → ⊥) → r ≡ k → ⊥
 not-last b k r n e = n (subst (λ (i : ℕ). Contains (b ++ k ∷ []) i) (sym e) (Contains-push b k))
 
--- what comes after a world is kept by each change
-pub later-kept : (b : World) → IsKept (IsLater b)
-later-kept b = record {
-  chosen = λ w h. record {
-    objects = h.objects;
+-- what comes after a store is kept by each change
+pub later-kept : (p : Parts) (b : Store) → IsKept p (IsLater b)
+later-kept p b = record {
+  made = λ t m bag w h. record {
+    objects = λ r o e. still-made w.heap (new_object p t m bag) r o (h.objects r o e);
     writes = h.writes;
     written = h.written;
-    unwritten = h.unwritten;
-    sets = h.sets;
-    set = h.set;
-    unset = h.unset;
-    events = h.events;
-  };
-  made = λ n w h. record {
-    objects = λ r o e. still-made w.heap n r o (h.objects r o e);
-    writes = h.writes;
-    written = h.written;
-    unwritten = λ r o m e. get-longer w.heap n r o (h.unwritten r o m e);
+    unwritten = λ r o n e. get-longer w.heap (new_object p t m bag) r o (h.unwritten r o n e);
     sets = h.sets;
     set = h.set;
     unset = h.unset;
@@ -149,10 +141,10 @@ later-kept b = record {
 out-of-part : (a b all : List ℕ) (k : ℕ) → all ≡ a ++ b → (Contains all k → ⊥) → Contains b k → ⊥
 out-of-part a b all k e n c = n (subst (λ (l : List ℕ). Contains l k) (sym e) (Contains-append_right a b k c))
 
-pub later-unwritten : (b w : World) (r : ℕ) (o : Object) → IsLater b w → (Contains w.written r → ⊥) → slice_get b.heap r ≡ Some o → slice_get w.heap r ≡ Some o
+pub later-unwritten : (b w : Store) (r : ℕ) (o : Object) → IsLater b w → (Contains w.written r → ⊥) → slice_get b.heap r ≡ Some o → slice_get w.heap r ≡ Some o
 later-unwritten b w r o h n e = h.unwritten r o (out-of-part b.written h.writes w.written r h.written n) e
 
-pub later-unset : (b w : World) (k : ℕ) → IsLater b w → (Contains w.set k → ⊥) → slice_get w.statics k ≡ slice_get b.statics k
+pub later-unset : (b w : Store) (k : ℕ) → IsLater b w → (Contains w.set k → ⊥) → slice_get w.statics k ≡ slice_get b.statics k
 later-unset b w k h n = h.unset k (out-of-part b.set h.sets w.set k h.set n)
 
 -- a list is no longer than another that has an item wherever it has one
@@ -164,10 +156,10 @@ no-longer (x ∷ xs) ys each = last (slice_get_cases (x ∷ xs) (length xs)).1
     last (inl q) = omega (arith, each (length xs) q.0 q.2)
     last (inr q) = absurd (omega (arith, q.0))
 
-pub later-size : (b w : World) → IsLater b w → length b.heap ≤ length w.heap
+pub later-size : (b w : Store) → IsLater b w → length b.heap ≤ length w.heap
 later-size b w h = no-longer b.heap w.heap (λ k o e. slice_get_within w.heap k (h.objects k o e).new (h.objects k o e).found)
 
-pub later-objects : (b w : World) (r : ℕ) (n : Object) → IsLater b w → slice_get w.heap r ≡ Some n → (length b.heap ≤ r) ⊎ ((o : Object) × (slice_get b.heap r ≡ Some o) × Becomes o n)
+pub later-objects : (b w : Store) (r : ℕ) (n : Object) → IsLater b w → slice_get w.heap r ≡ Some n → (length b.heap ≤ r) ⊎ ((o : Object) × (slice_get b.heap r ≡ Some o) × Becomes o n)
 later-objects b w r n h e = by (slice_get_cases b.heap r).1
   where
     by : ((o : Object) × (r < length b.heap) × (slice_get b.heap r ≡ Some o) × (get_or b.heap r o ≡ o)) ⊎ ((length b.heap ≤ r) × (slice_get b.heap r ≡ None)) → (length b.heap ≤ r) ⊎ ((o : Object) × (slice_get b.heap r ≡ Some o) × Becomes o n)

@@ -1,3 +1,4 @@
+pub mod Marks
 pub mod Meets
 pub mod Explores
 pub mod Marked
@@ -7,3 +8,8 @@ pub mod Runs
 pub mod Later
 pub mod Longer
 pub mod Actions
+pub mod Slots
+pub mod Starts
+pub mod Leaves
+pub mod Effects
+pub mod Heaps

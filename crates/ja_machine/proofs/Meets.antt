@@ -8,7 +8,7 @@ use Rattle.ja_machine.specs.declared.heap.Value.TheVariants.{Prim, Null, Ref}
 use Rattle.ja_machine.specs.declared.heap.FieldValue.{FieldValue}
 use Rattle.ja_machine.specs.declared.heap.Object.{Object}
 use Rattle.ja_machine.specs.Reach.{reference_of, field_references, links}
-use Rattle.ja_machine.specs.Search.{Seen, meets_place, meets_value, meets_fields, meets_places, meets_object}
+use Rattle.ja_machine.specs.InnerSearch.{Seen, meets_place, meets_value, meets_fields, meets_places, meets_object}
 
 -- the flag of a place is set
 abbrev pub has : List Bool → ℕ → Bool

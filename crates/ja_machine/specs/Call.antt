@@ -8,41 +8,43 @@ use Rattle.ja_ir.specs.declared.op.CallOp.{CallOp}
 use Rattle.ja_ir.specs.declared.op.CallKind.{CallKind}
 use Rattle.ja_ir.specs.declared.op.CallKind.TheVariants.{Virtual, Special, Static, Interface, StaticField, MemberField}
 use Rattle.ja_ir.specs.Lookup.{is_static, is_member, select}
-use Rattle.ja_ir.specs.Operations.{has_receiver}
+use Rattle.ja_ir.specs.Operations.{arguments, has_receiver}
 use Rattle.ja_ir.specs.Tokens.{fits, names_program}
 use Rattle.ja_machine.specs.declared.heap.Value.{Value}
 use Rattle.ja_machine.specs.declared.heap.Value.TheVariants.{Prim, Null, Ref}
 use Rattle.ja_machine.specs.declared.heap.Object.{Object}
+use Rattle.ja_machine.specs.Marks.{none}
 use Rattle.ja_machine.specs.State.{Frame, World, Next, Enters, NoRule}
-use Rattle.ja_machine.specs.Step.{throws_new}
+use Rattle.ja_machine.specs.Step.{throws_new, with_popped}
 use Rattle.ja_machine.specs.Library.{library, first_of}
 
--- the call goes to what was looked up: a method with code is called, one without throws, the library does its row
-abbrev pub goes_to : Parts → CallOp → (args : List Value) → Frame → World → MethodAt → Next
-goes_to p call args frame world (Program m) = Enters m.0 args frame world
-goes_to p call args frame world (Abstract m) = throws_new p false frame world
-goes_to p call args frame world Library = library p call args frame world
+-- where a call goes.
+-- OnNull: its receiver is null.
+-- Nowhere: no rule allows it.
+-- To: to a method or to the library.
+pub data Target : Type 0 where
+  OnNull : Target
+  Nowhere : Target
+  To : (target : MethodAt) → Target
 
--- a call on an object of this token chooses its target, or no rule allows it: a program token selects, where it fits a named program
--- class; another token is a library call, where no program class is named
-abbrev pub dispatches : Parts → CallOp → (args : List Value) → Frame → World → (token : ℕ) → Next
-dispatches p call args frame world token =
+-- the target for an object of this token: a program token selects, where it fits a named program class; another token is one of the
+-- library, where no program class is named
+abbrev pub target_for : Parts → CallOp → (token : ℕ) → Target
+target_for p call token =
     if nat_lt token (length p.classes)
-    then if not (names_program p call.class) || fits p token call.class
-    then goes_to p call args frame world (select p token call.name call.desc)
-    else NoRule
-    else if names_program p call.class then NoRule else library p call args frame world
+    then if not (names_program p call.class) || fits p token call.class then To (select p token call.name call.desc) else Nowhere
+    else if names_program p call.class then Nowhere else To Library
 
--- a call on an object, where there is one
-abbrev pub dispatches_on : Parts → CallOp → (args : List Value) → Frame → World → Option Object → Next
-dispatches_on p call args frame world None = NoRule
-dispatches_on p call args frame world (Some object) = dispatches p call args frame world object.token.0
+-- the target for an object, where there is one
+abbrev pub target_for_object : Parts → CallOp → Option Object → Target
+target_for_object p call None = Nowhere
+target_for_object p call (Some object) = target_for p call object.token.0
 
--- a virtual or interface call on its receiver
-abbrev pub calls_on : Parts → CallOp → (args : List Value) → Frame → World → (receiver : Value) → Next
-calls_on p call args frame world (Prim mark) = NoRule
-calls_on p call args frame world Null = throws_new p false frame world
-calls_on p call args frame world (Ref place) = dispatches_on p call args frame world (slice_get world.heap place)
+-- the target of a virtual or interface call on its receiver
+abbrev pub target_on : Parts → CallOp → List Object → (receiver : Value) → Target
+target_on p call heap (Prim mark) = Nowhere
+target_on p call heap Null = OnNull
+target_on p call heap (Ref place) = target_for_object p call (slice_get heap place)
 
 -- the method, if there is one, is static or not as asked
 abbrev pub has_flags_for : (static : Bool) → Option Method → Bool
@@ -56,27 +58,43 @@ agrees p static (Program m) = has_flags_for static (slice_get p.methods m.0)
 agrees p static (Abstract m) = has_flags_for static (slice_get p.methods m.0)
 agrees p static Library = true
 
--- a static or special call goes to what was found
-abbrev pub goes_to_found : Parts → CallOp → (static : Bool) → (args : List Value) → Frame → World → Option MethodAt → Next
-goes_to_found p call static args frame world None = NoRule
-goes_to_found p call static args frame world (Some target) =
-    if agrees p static target then goes_to p call args frame world target else NoRule
+-- the target of a static or special call is what was found
+abbrev pub target_found : Parts → (static : Bool) → Option MethodAt → Target
+target_found p static None = Nowhere
+target_found p static (Some target) = if agrees p static target then To target else Nowhere
 
--- a call of a kind with these arguments
-abbrev pub by_kind : Parts → CallOp → CallKind → (args : List Value) → Frame → World → Next
-by_kind p call Virtual args frame world = calls_on p call args frame world (first_of args)
-by_kind p call Interface args frame world = calls_on p call args frame world (first_of args)
-by_kind p call Special args frame world = goes_to_found p call false args frame world call.found
-by_kind p call Static args frame world = goes_to_found p call true args frame world call.found
-by_kind p call StaticField args frame world = library p call args frame world
-by_kind p call MemberField args frame world = library p call args frame world
+-- the target of a call of a kind; a call that is made of a field access is always one of the library
+abbrev pub target_of_kind : Parts → CallOp → CallKind → (args : List Value) → List Object → Target
+target_of_kind p call Virtual args heap = target_on p call heap (first_of args)
+target_of_kind p call Interface args heap = target_on p call heap (first_of args)
+target_of_kind p call Special args heap = target_found p false call.found
+target_of_kind p call Static args heap = target_found p true call.found
+target_of_kind p call StaticField args heap = To Library
+target_of_kind p call MemberField args heap = To Library
 
 -- the value is null
 abbrev pub is_null : Value → Bool
 is_null Null = true
 is_null _ = false
 
--- a call with these arguments; a receiver that is null throws
+-- where a call with these arguments goes
+abbrev pub target_of : Parts → CallOp → (args : List Value) → List Object → Target
+target_of p call args heap =
+    if has_receiver call.kind && is_null (first_of args) then OnNull else target_of_kind p call call.kind args heap
+
+-- a call with these arguments goes to its target: a null receiver throws, a method with code is called, one without throws, and the
+-- library does its row
+abbrev pub goes_to : Parts → CallOp → (args : List Value) → Frame → World → Target → Next
+goes_to p call args frame world OnNull = throws_new p none frame world
+goes_to p call args frame world Nowhere = NoRule
+goes_to p call args frame world (To (Program m)) = Enters m.0 args frame world
+goes_to p call args frame world (To (Abstract m)) = throws_new p none frame world
+goes_to p call args frame world (To Library) = library p call args frame world
+
+-- a call with these arguments
 abbrev pub calls : Parts → CallOp → (args : List Value) → Frame → World → Next
-calls p call args frame world =
-    if has_receiver call.kind && is_null (first_of args) then throws_new p false frame world else by_kind p call call.kind args frame world
+calls p call args frame world = goes_to p call args frame world (target_of p call args world.store.heap)
+
+-- Call: the arguments are popped
+abbrev pub step_call : Parts → CallOp → Frame → World → Next
+step_call p call frame world = with_popped (arguments call) frame (λ args rest. calls p call args rest world)

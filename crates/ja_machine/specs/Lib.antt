@@ -1,11 +1,13 @@
+pub mod Marks
 pub mod Reach
-pub mod Search
-pub mod Searches
+pub mod InnerSearch
+pub mod InnerSeen
 pub mod State
 pub mod Objects
 pub mod Step
 pub mod Library
 pub mod Call
+pub mod Act
 pub mod Run
 pub mod Environment
 pub mod Laws

@@ -1,6 +1,7 @@
--- Which objects of a heap reach which, and which values are tainted.
-use Rattle.std.specs.Prelude.{◌≡◌, ℕ, zero, suc, ◌+◌, ◌<◌, ◌==◌, ◌||◌, All, Bool, true, false, List, [], ◌∷◌, ◌++◌, Option, Some, None, Contains, length, slice_get, if◌then◌else◌}
+-- Which objects of a heap reach which, and in which categories values are tainted.
+use Rattle.std.specs.Prelude.{◌≡◌, ℕ, zero, suc, ◌+◌, ◌<◌, ◌==◌, ◌||◌, All, Bool, true, List, [], ◌∷◌, ◌++◌, Option, Some, None, Contains, length, slice_get, if◌then◌else◌}
 use Rattle.std.specs.List.{list_any}
+use Rattle.ja_machine.specs.Marks.{has, none, union}
 use Rattle.ja_machine.specs.declared.heap.Value.{Value}
 use Rattle.ja_machine.specs.declared.heap.Value.TheVariants.{Prim, Null, Ref}
 use Rattle.ja_machine.specs.declared.heap.FieldValue.{FieldValue}
@@ -45,22 +46,22 @@ pub data Path (out : Object → List ℕ) (heap : List Object) : ℕ → ℕ →
 abbrev pub Reaches : List Object → (a b : ℕ) → Type 0
 Reaches heap a b = Path links heap a b
 
--- the mark of a primitive value
-abbrev pub mark_of : Value → Bool
+-- the marks of a primitive value
+abbrev pub mark_of : Value → ℕ
 mark_of (Prim mark) = mark
-mark_of Null = false
-mark_of (Ref place) = false
+mark_of Null = none
+mark_of (Ref place) = none
 
--- the object has a mark, or a field with a marked primitive value
-abbrev pub is_marked : Object → Bool
-is_marked object = object.mark || list_any (λ (field : FieldValue). mark_of field.value) object.fields
+-- the object has a mark of the category, or a field with a primitive value that has one
+abbrev pub is_marked : (c : ℕ) → Object → Bool
+is_marked c object = has object.mark c || list_any (λ (field : FieldValue). has (mark_of field.value) c) object.fields
 
--- the value is a marked primitive, or a reference that reaches a marked object
-pub data IsTainted (heap : List Object) : Value → Type 0 where
-  marked : IsTainted heap (Prim true)
-  reaches : (place a : ℕ) (object : Object) → Reaches heap place a → slice_get heap a ≡ Some object → is_marked object ≡ true → IsTainted heap (Ref place)
+-- the value is a primitive with a mark of the category, or a reference that reaches an object with one
+pub data IsTainted (c : ℕ) (heap : List Object) : Value → Type 0 where
+  marked : (mark : ℕ) → has mark c ≡ true → IsTainted c heap (Prim mark)
+  reaches : (place a : ℕ) (object : Object) → Reaches heap place a → slice_get heap a ≡ Some object → is_marked c object ≡ true → IsTainted c heap (Ref place)
 
--- the same as tests, which the machine makes
+-- the same as functions, which the machine uses
 
 -- some place of this kind is reached from a by at most n steps
 abbrev pub finds : ℕ → (good : ℕ → Bool) (next : ℕ → List ℕ) → (a : ℕ) → Bool
@@ -80,24 +81,35 @@ next_of out heap a = out_of out (slice_get heap a)
 abbrev pub is_reached : (out : Object → List ℕ) (heap : List Object) → (a b : ℕ) → Bool
 is_reached out heap a b = finds (length heap) (λ c. c == b) (next_of out heap) a
 
--- the object, if there is one, is marked
-abbrev pub marks : Option Object → Bool
-marks None = false
-marks (Some object) = is_marked object
+-- the marks of primitive values in fields
+abbrev pub field_marks : List FieldValue → ℕ
+field_marks [] = none
+field_marks (field ∷ fields) = union (mark_of field.value) (field_marks fields)
 
--- whether the object at a place is marked
-abbrev pub is_marked_at : (heap : List Object) → (a : ℕ) → Bool
-is_marked_at heap a = marks (slice_get heap a)
+-- the marks of an object: its own and those in its fields
+abbrev pub marks_of : Object → ℕ
+marks_of object = union object.mark (field_marks object.fields)
 
--- whether the value is tainted
-abbrev pub is_tainted : List Object → Value → Bool
-is_tainted heap (Prim mark) = mark
-is_tainted heap Null = false
-is_tainted heap (Ref place) = finds (length heap) (is_marked_at heap) (next_of links heap) place
+-- the marks of those of the objects, whose places are k and the following, that are reached from a
+abbrev pub marks_reached : (heap : List Object) (a : ℕ) → (k : ℕ) → List Object → ℕ
+marks_reached heap a k [] = none
+marks_reached heap a k (object ∷ objects) =
+    if is_reached links heap a k then union (marks_of object) (marks_reached heap a (k + 1) objects) else marks_reached heap a (k + 1) objects
 
--- whether some of the values is
-abbrev pub is_any_tainted : List Object → List Value → Bool
-is_any_tainted heap values = list_any (is_tainted heap) values
+-- the categories in which the value is tainted: the marks of a primitive value, or of all objects that a reference reaches
+abbrev pub taints : List Object → Value → ℕ
+taints heap (Prim mark) = mark
+taints heap Null = none
+taints heap (Ref place) = marks_reached heap place 0 heap
+
+-- the categories in which some of the values is
+abbrev pub all_taints : List Object → List Value → ℕ
+all_taints heap [] = none
+all_taints heap (value ∷ values) = union (taints heap value) (all_taints heap values)
+
+-- whether the value is tainted in the category
+abbrev pub is_tainted : (c : ℕ) → List Object → Value → Bool
+is_tainted c heap value = has (taints heap value) c
 
 -- the places, from number k on, whose objects pass the test, in ascending order
 abbrev pub places_from : (k : ℕ) → (test : ℕ → Object → Bool) → List Object → List ℕ

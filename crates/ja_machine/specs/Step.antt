@@ -1,28 +1,29 @@
 -- What each operation does but for calls (JVM specification 6.5).
 use Rattle.std.specs.Prelude.{ℕ, zero, suc, ◌+◌, ◌==◌, ◌||◌, Bool, true, false, List, [], ◌∷◌, ◌++◌, Option, Some, None, length, slice_get, slice_set, nat_le, nat_lt, if◌then◌else◌}
-use Rattle.std.specs.List.{list_all, list_any}
+use Rattle.std.specs.List.{list_all}
 use Rattle.ja_base.specs.declared.java_type.Kind.{Kind}
 use Rattle.ja_base.specs.declared.java_type.Kind.TheVariants.{R}
 use Rattle.ja_ir.specs.declared.program.Parts.{Parts}
 use Rattle.ja_ir.specs.declared.class.ClassInfo.{ClassInfo}
 use Rattle.ja_ir.specs.declared.class.Field.{Field}
 use Rattle.ja_ir.specs.Lookup.{is_abstract, is_interface, is_static}
-use Rattle.ja_ir.specs.Tokens.{lib_token, rarr_token, parr_token, fits}
+use Rattle.ja_ir.specs.Tokens.{text_token, lib_token, rarr_token, parr_token, fits}
 use Rattle.ja_machine.specs.declared.heap.Value.{Value}
 use Rattle.ja_machine.specs.declared.heap.Value.TheVariants.{Prim, Null, Ref}
 use Rattle.ja_machine.specs.declared.heap.FieldValue.{FieldValue}
 use Rattle.ja_machine.specs.declared.heap.Object.{Object}
-use Rattle.ja_machine.specs.Reach.{mark_of, references, is_tainted}
-use Rattle.ja_machine.specs.State.{Frame, World, Next, Goes, Throws, Ends, NoRule, with_stack, pushed, dirtied, with_object, topmost, beneath, decide, decide_whether}
+use Rattle.ja_machine.specs.Marks.{none, union}
+use Rattle.ja_machine.specs.Reach.{mark_of, references, taints}
+use Rattle.ja_machine.specs.State.{Frame, Store, World, Next, Goes, Throws, Ends, NoRule, with_stack, pushed, dirtied, changed, with_object, topmost, beneath, decide, decide_whether}
 use Rattle.ja_machine.specs.Objects.{new_object, Made, object_made, around}
 
--- throws a new library object with this mark
-abbrev pub throws_new : Parts → (mark : Bool) → Frame → World → Next
-throws_new p mark frame world = Throws (length world.heap) frame (with_object (new_object p (lib_token p) mark []) world)
+-- throws a new library object with these marks
+abbrev pub throws_new : Parts → (mark : ℕ) → Frame → World → Next
+throws_new p mark frame world = Throws (length world.store.heap) frame (changed (with_object (new_object p (lib_token p) mark [])) world)
 
 -- throws a new library object by choice, and else goes on
 abbrev pub throws_or_goes : Parts → Frame → World → (World → Next) → Next
-throws_or_goes p frame world go = decide_whether world go (λ rest. throws_new p false frame rest)
+throws_or_goes p frame world go = decide_whether world go (λ rest. throws_new p none frame rest)
 
 -- goes on with a value more on the stack
 abbrev pub pushes : Value → Frame → World → Next
@@ -37,15 +38,31 @@ abbrev pub pushes_some : Option Value → Frame → World → Next
 pushes_some None frame world = NoRule
 pushes_some (Some value) frame world = pushes value frame world
 
+-- Nop
+abbrev pub step_nop : Frame → World → Next
+step_nop frame world = Goes frame world
+
 -- a constant of a kind
 abbrev pub constant : Kind → Value
 constant R = Null
-constant _ = Prim false
+constant _ = Prim none
+
+-- Const
+abbrev pub step_const : Kind → Frame → World → Next
+step_const kind frame world = pushes (constant kind) frame world
+
+-- Text: a new text
+abbrev pub step_text : Parts → Frame → World → Next
+step_text p frame world = pushes_made frame (object_made (new_object p (text_token p) none []) world)
+
+-- Load: the value of a local
+abbrev pub step_load : (local : ℕ) → Frame → World → Next
+step_load local frame world = pushes_some (slice_get frame.locals local) frame world
 
 -- Store: the topmost value goes into the local
-abbrev pub stores : (local : ℕ) → Frame → List Value → World → Next
-stores local frame [] world = NoRule
-stores local frame (value ∷ stack) world =
+abbrev pub step_store : (local : ℕ) → Frame → List Value → World → Next
+step_store local frame [] world = NoRule
+step_store local frame (value ∷ stack) world =
     if nat_lt local (length frame.locals)
     then Goes (record { locals = slice_set frame.locals local value; stack = stack; dirt = frame.dirt }) world
     else NoRule
@@ -55,7 +72,7 @@ abbrev pub picked_with : Option Value → (Value → Next) → Next
 picked_with None go = NoRule
 picked_with (Some value) go = go value
 
--- Shuffle: the named ones of the popped values are pushed in order
+-- the named ones of the popped values are pushed in order
 abbrev pub picks : (popped : List Value) (named : List ℕ) → Frame → World → Next
 picks popped [] frame world = Goes frame world
 picks popped (k ∷ named) frame world = picked_with (slice_get popped k) (λ value. picks popped named (pushed value frame) world)
@@ -65,9 +82,18 @@ abbrev pub with_popped : (n : ℕ) → Frame → (popped : List Value → Frame 
 with_popped n frame go =
     if nat_le n (length frame.stack) then go (topmost n frame.stack) (with_stack (beneath n frame.stack) frame) else NoRule
 
--- the disjunction of the marks of values
-abbrev pub joined_mark : List Value → Bool
-joined_mark values = list_any mark_of values
+-- Shuffle
+abbrev pub step_shuffle : (n : ℕ) (named : List ℕ) → Frame → World → Next
+step_shuffle n named frame world = with_popped n frame (λ popped rest. picks popped named rest world)
+
+-- Branch: which instruction is next is chosen later
+abbrev pub step_branch : (n : ℕ) → Frame → World → Next
+step_branch n frame world = with_popped n frame (λ popped rest. Goes rest world)
+
+-- the marks of all of the values
+abbrev pub joined_marks : List Value → ℕ
+joined_marks [] = none
+joined_marks (value ∷ values) = union (mark_of value) (joined_marks values)
 
 -- the value is a primitive
 abbrev pub is_primitive : Value → Bool
@@ -76,29 +102,33 @@ is_primitive _ = false
 
 -- a primitive that has the marks of all that was popped, where those are primitives
 abbrev pub pushes_joined : (popped : List Value) → Frame → World → Next
-pushes_joined popped frame world = if list_all is_primitive popped then pushes (Prim (joined_mark popped)) frame world else NoRule
+pushes_joined popped frame world = if list_all is_primitive popped then pushes (Prim (joined_marks popped)) frame world else NoRule
 
--- Mix: the popped primitives become one, or it throws by choice where it may
+-- the popped primitives become one, or it throws by choice where it may
 abbrev pub mixes : Parts → (throws : Bool) (popped : List Value) → Frame → World → Next
 mixes p true popped frame world = throws_or_goes p frame world (pushes_joined popped frame)
 mixes p false popped frame world = pushes_joined popped frame world
 
+-- Mix
+abbrev pub step_mix : Parts → (n : ℕ) (throws : Bool) → Frame → World → Next
+step_mix p n throws frame world = with_popped n frame (λ popped rest. mixes p throws popped rest world)
+
 -- the method ends with the topmost value
-abbrev pub returns_top : (dirt : Bool) → List Value → World → Next
+abbrev pub returns_top : (dirt : ℕ) → List Value → World → Next
 returns_top dirt [] world = NoRule
 returns_top dirt (value ∷ stack) world = Ends (Some value) dirt world
 
 -- Return: with the topmost value where there is a kind
-abbrev pub returns : Option Kind → Frame → World → Next
-returns None frame world = Ends None frame.dirt world
-returns (Some kind) frame world = returns_top frame.dirt frame.stack world
+abbrev pub step_return : Option Kind → Frame → World → Next
+step_return None frame world = Ends None frame.dirt world
+step_return (Some kind) frame world = returns_top frame.dirt frame.stack world
 
 -- Throw: the popped reference
-abbrev pub throws : Parts → Frame → List Value → World → Next
-throws p frame [] world = NoRule
-throws p frame (Prim mark ∷ stack) world = NoRule
-throws p frame (Null ∷ stack) world = throws_new p false (with_stack stack frame) world
-throws p frame (Ref place ∷ stack) world = Throws place (with_stack stack frame) world
+abbrev pub step_throw : Parts → Frame → List Value → World → Next
+step_throw p frame [] world = NoRule
+step_throw p frame (Prim mark ∷ stack) world = NoRule
+step_throw p frame (Null ∷ stack) world = throws_new p none (with_stack stack frame) world
+step_throw p frame (Ref place ∷ stack) world = Throws place (with_stack stack frame) world
 
 -- what is done on an object, where there is one
 abbrev pub object_or_none : (Object → Next) → Option Object → Next
@@ -107,9 +137,9 @@ object_or_none go (Some object) = go object
 
 -- an operation on an object: null throws, and any other value may throw by choice; else the rest is done on the object
 abbrev pub on_object : Parts → Value → Frame → World → ((place : ℕ) → Object → World → Next) → Next
-on_object p Null frame world go = throws_new p false frame world
+on_object p Null frame world go = throws_new p none frame world
 on_object p (Prim mark) frame world go = throws_or_goes p frame world (λ rest. NoRule)
-on_object p (Ref place) frame world go = throws_or_goes p frame world (λ rest. object_or_none (λ object. go place object rest) (slice_get rest.heap place))
+on_object p (Ref place) frame world go = throws_or_goes p frame world (λ rest. object_or_none (λ object. go place object rest) (slice_get rest.store.heap place))
 
 -- the value of a field among those of an object
 abbrev pub field_value : (field : ℕ) → List FieldValue → Option Value
@@ -125,35 +155,35 @@ with_field field value (f ∷ fields) = if f.field.0 == field then record { fiel
 abbrev pub object_with_field : (field : ℕ) → Value → Object → Object
 object_with_field field value object = record { token = object.token; fields = with_field field value object.fields; mark = object.mark; bag = object.bag }
 
--- an object after its mark rose by this one and its bag took these places
-abbrev pub object_grown : (mark : Bool) (places : List ℕ) → Object → Object
-object_grown mark places object = record { token = object.token; fields = object.fields; mark = object.mark || mark; bag = object.bag ++ places }
+-- an object after its marks rose by these and its bag took these places
+abbrev pub object_grown : (mark : ℕ) (places : List ℕ) → Object → Object
+object_grown mark places object = record { token = object.token; fields = object.fields; mark = union object.mark mark; bag = object.bag ++ places }
 
--- the world after the object at a place was written, and is this one now
-abbrev pub with_object_at : (place : ℕ) → Object → World → World
-with_object_at place object world = record world { heap = slice_set world.heap place object; written = world.written ++ place ∷ [] }
+-- the store after the object at a place was written, and is this one now
+abbrev pub with_object_at : (place : ℕ) → Object → Store → Store
+with_object_at place object store = record store { heap = slice_set store.heap place object; written = store.written ++ place ∷ [] }
 
--- the world after a static field was set
-abbrev pub with_static : (field : ℕ) → Value → World → World
-with_static field value world = record world { statics = slice_set world.statics field value; set = world.set ++ field ∷ [] }
+-- the store after a static field was set
+abbrev pub with_static : (field : ℕ) → Value → Store → Store
+with_static field value store = record store { statics = slice_set store.statics field value; set = store.set ++ field ∷ [] }
 
 -- GetField
-abbrev pub gets : Parts → (field : ℕ) → Frame → List Value → World → Next
-gets p field frame [] world = NoRule
-gets p field frame (value ∷ stack) world =
+abbrev pub step_get_field : Parts → (field : ℕ) → Frame → List Value → World → Next
+step_get_field p field frame [] world = NoRule
+step_get_field p field frame (value ∷ stack) world =
     on_object p value (with_stack stack frame) world (λ place object rest. pushes_some (field_value field object.fields) (with_stack stack frame) rest)
 
 -- the field of an object is set, where the object has it
-abbrev pub sets : (field : ℕ) → Value → (place : ℕ) → Object → Option Value → Frame → World → Next
-sets field value place object None frame world = NoRule
-sets field value place object (Some old) frame world =
-    Goes (dirtied (is_tainted world.heap value) frame) (with_object_at place (object_with_field field value object) world)
+abbrev pub puts_field : (field : ℕ) → Value → (place : ℕ) → Object → Option Value → Frame → World → Next
+puts_field field value place object None frame world = NoRule
+puts_field field value place object (Some old) frame world =
+    Goes (dirtied (taints world.store.heap value) frame) (changed (with_object_at place (object_with_field field value object)) world)
 
 -- PutField
-abbrev pub puts : Parts → (field : ℕ) → Frame → List Value → World → Next
-puts p field frame (value ∷ target ∷ stack) world =
-    on_object p target (with_stack stack frame) world (λ place object rest. sets field value place object (field_value field object.fields) (with_stack stack frame) rest)
-puts p field frame _ world = NoRule
+abbrev pub step_put_field : Parts → (field : ℕ) → Frame → List Value → World → Next
+step_put_field p field frame (value ∷ target ∷ stack) world =
+    on_object p target (with_stack stack frame) world (λ place object rest. puts_field field value place object (field_value field object.fields) (with_stack stack frame) rest)
+step_put_field p field frame _ world = NoRule
 
 -- the field, if there is one, is a static one
 abbrev pub static_in : Option Field → Bool
@@ -165,16 +195,16 @@ abbrev pub is_static_field : Parts → (field : ℕ) → Bool
 is_static_field p field = static_in (slice_get p.fields field)
 
 -- GetStatic
-abbrev pub gets_static : Parts → (field : ℕ) → Frame → World → Next
-gets_static p field frame world =
-    if is_static_field p field then pushes_some (slice_get world.statics field) frame world else NoRule
+abbrev pub step_get_static : Parts → (field : ℕ) → Frame → World → Next
+step_get_static p field frame world =
+    if is_static_field p field then pushes_some (slice_get world.store.statics field) frame world else NoRule
 
 -- PutStatic
-abbrev pub puts_static : Parts → (field : ℕ) → Frame → List Value → World → Next
-puts_static p field frame [] world = NoRule
-puts_static p field frame (value ∷ stack) world =
+abbrev pub step_put_static : Parts → (field : ℕ) → Frame → List Value → World → Next
+step_put_static p field frame [] world = NoRule
+step_put_static p field frame (value ∷ stack) world =
     if is_static_field p field
-    then Goes (with_stack stack frame) (with_static field value world)
+    then Goes (with_stack stack frame) (changed (with_static field value) world)
     else NoRule
 
 -- a class of which there is no object of its own
@@ -183,22 +213,26 @@ has_no_objects None = false
 has_no_objects (Some class) = is_abstract class.flags || is_interface class.flags
 
 -- New: an object of the token; of an abstract class or an interface it throws
-abbrev pub makes : Parts → (token : ℕ) → Frame → World → Next
-makes p token frame world =
+abbrev pub step_new : Parts → (token : ℕ) → Frame → World → Next
+step_new p token frame world =
     if has_no_objects (slice_get p.classes token)
-    then throws_new p false frame world
-    else throws_or_goes p frame world (λ rest. pushes_made frame (object_made (new_object p token false []) rest))
+    then throws_new p none frame world
+    else throws_or_goes p frame world (λ rest. pushes_made frame (object_made (new_object p token none []) rest))
 
 -- arrays of references round an array, one for each further dimension
 abbrev pub nested : Parts → (dimensions : ℕ) → Made → Made
 nested p zero inner = inner
-nested p (suc n) inner = nested p n (around p false inner)
+nested p (suc n) inner = nested p n (around p none inner)
 
--- NewArray: a chain of as many arrays as dimensions, the innermost made first; each but the last has the next in its bag
+-- a chain of as many arrays as dimensions, the innermost made first; each but the last has the next in its bag
 abbrev pub makes_arrays : Parts → (last dimensions : ℕ) → Frame → World → Next
 makes_arrays p last zero frame world = NoRule
 makes_arrays p last (suc n) frame world =
-    throws_or_goes p frame world (λ rest. pushes_made frame (nested p n (object_made (new_object p last false []) rest)))
+    throws_or_goes p frame world (λ rest. pushes_made frame (nested p n (object_made (new_object p last none []) rest)))
+
+-- NewArray: the lengths are popped
+abbrev pub step_new_array : Parts → (last dimensions : ℕ) → Frame → World → Next
+step_new_array p last dimensions frame world = with_popped dimensions frame (λ popped rest. makes_arrays p last dimensions rest world)
 
 -- the element that was picked: null, or one of the bag's
 abbrev pub element : List ℕ → (way : ℕ) → Option Value
@@ -216,7 +250,7 @@ loads_reference p frame object world =
     then decide (length object.bag + 1) world (λ k rest. pushes_some (element object.bag k) frame rest)
     else NoRule
 
--- an element of an array of primitives is loaded: a primitive with the array's mark
+-- an element of an array of primitives is loaded: a primitive with the array's marks
 abbrev pub loads_primitive : Parts → Frame → Object → World → Next
 loads_primitive p frame object world = if object.token.0 == parr_token p then pushes (Prim object.mark) frame world else NoRule
 
@@ -226,23 +260,23 @@ loads_element p R frame object world = loads_reference p frame object world
 loads_element p _ frame object world = loads_primitive p frame object world
 
 -- ArrLoad
-abbrev pub loads : Parts → Kind → Frame → List Value → World → Next
-loads p kind frame (index ∷ array ∷ stack) world =
+abbrev pub step_array_load : Parts → Kind → Frame → List Value → World → Next
+step_array_load p kind frame (index ∷ array ∷ stack) world =
     on_object p array (with_stack stack frame) world (λ place object rest. loads_element p kind (with_stack stack frame) object rest)
-loads p kind frame _ world = NoRule
+step_array_load p kind frame _ world = NoRule
 
 -- an element of an array of references is stored: the bag takes a reference
 abbrev pub stores_reference : Parts → Value → Frame → (place : ℕ) → Object → World → Next
 stores_reference p value frame place object world =
     if object.token.0 == rarr_token p
-    then Goes (dirtied (is_tainted world.heap value) frame) (with_object_at place (object_grown false (references (value ∷ [])) object) world)
+    then Goes (dirtied (taints world.store.heap value) frame) (changed (with_object_at place (object_grown none (references (value ∷ [])) object)) world)
     else NoRule
 
--- an element of an array of primitives is stored: the mark rises by the value's
+-- an element of an array of primitives is stored: the marks rise by the value's
 abbrev pub stores_primitive : Parts → Value → Frame → (place : ℕ) → Object → World → Next
 stores_primitive p value frame place object world =
     if object.token.0 == parr_token p
-    then Goes (dirtied (is_tainted world.heap value) frame) (with_object_at place (object_grown (mark_of value) [] object) world)
+    then Goes (dirtied (taints world.store.heap value) frame) (changed (with_object_at place (object_grown (mark_of value) [] object)) world)
     else NoRule
 
 -- an element of a kind is stored
@@ -251,40 +285,40 @@ stores_element p R value frame place object world = stores_reference p value fra
 stores_element p _ value frame place object world = stores_primitive p value frame place object world
 
 -- ArrStore
-abbrev pub stores_in : Parts → Kind → Frame → List Value → World → Next
-stores_in p kind frame (value ∷ index ∷ array ∷ stack) world =
+abbrev pub step_array_store : Parts → Kind → Frame → List Value → World → Next
+step_array_store p kind frame (value ∷ index ∷ array ∷ stack) world =
     on_object p array (with_stack stack frame) world (λ place object rest. stores_element p kind value (with_stack stack frame) place object rest)
-stores_in p kind frame _ world = NoRule
+step_array_store p kind frame _ world = NoRule
 
 -- an operation that only asks that a value is not null
 abbrev pub unless_null : Parts → Value → Frame → World → (World → Next) → Next
-unless_null p Null frame world go = throws_new p false frame world
+unless_null p Null frame world go = throws_new p none frame world
 unless_null p _ frame world go = throws_or_goes p frame world go
 
 -- ArrLen: a length carries no mark
-abbrev pub measures : Parts → Frame → List Value → World → Next
-measures p frame [] world = NoRule
-measures p frame (array ∷ stack) world = unless_null p array (with_stack stack frame) world (pushes (Prim false) (with_stack stack frame))
+abbrev pub step_array_length : Parts → Frame → List Value → World → Next
+step_array_length p frame [] world = NoRule
+step_array_length p frame (array ∷ stack) world = unless_null p array (with_stack stack frame) world (pushes (Prim none) (with_stack stack frame))
 
 -- Monitor
-abbrev pub locks : Parts → Frame → List Value → World → Next
-locks p frame [] world = NoRule
-locks p frame (value ∷ stack) world = unless_null p value (with_stack stack frame) world (Goes (with_stack stack frame))
+abbrev pub step_monitor : Parts → Frame → List Value → World → Next
+step_monitor p frame [] world = NoRule
+step_monitor p frame (value ∷ stack) world = unless_null p value (with_stack stack frame) world (Goes (with_stack stack frame))
 
 -- InstanceOf: the answer carries no mark
-abbrev pub asks : Frame → List Value → World → Next
-asks frame [] world = NoRule
-asks frame (value ∷ stack) world = pushes (Prim false) (with_stack stack frame) world
+abbrev pub step_instance_of : Frame → List Value → World → Next
+step_instance_of frame [] world = NoRule
+step_instance_of frame (value ∷ stack) world = pushes (Prim none) (with_stack stack frame) world
 
 -- Cast on an object: it throws where the object does not fit
 abbrev pub casts_object : Parts → (name : List ℕ) → (place : ℕ) → Frame → World → Option Object → Next
 casts_object p name place frame world None = NoRule
 casts_object p name place frame world (Some object) =
-    if fits p object.token.0 name then throws_or_goes p frame world (pushes (Ref place) frame) else throws_new p false frame world
+    if fits p object.token.0 name then throws_or_goes p frame world (pushes (Ref place) frame) else throws_new p none frame world
 
 -- Cast: null is kept, and a reference that fits
-abbrev pub casts : Parts → (name : List ℕ) → Frame → List Value → World → Next
-casts p name frame [] world = NoRule
-casts p name frame (Null ∷ stack) world = throws_or_goes p (with_stack stack frame) world (pushes Null (with_stack stack frame))
-casts p name frame (Prim mark ∷ stack) world = throws_or_goes p (with_stack stack frame) world (λ rest. NoRule)
-casts p name frame (Ref place ∷ stack) world = casts_object p name place (with_stack stack frame) world (slice_get world.heap place)
+abbrev pub step_cast : Parts → (name : List ℕ) → Frame → List Value → World → Next
+step_cast p name frame [] world = NoRule
+step_cast p name frame (Null ∷ stack) world = throws_or_goes p (with_stack stack frame) world (pushes Null (with_stack stack frame))
+step_cast p name frame (Prim mark ∷ stack) world = throws_or_goes p (with_stack stack frame) world (λ rest. NoRule)
+step_cast p name frame (Ref place ∷ stack) world = casts_object p name place (with_stack stack frame) world (slice_get world.store.heap place)

@@ -4,8 +4,9 @@ use ja_ir::Token;
 /// A value of the marked machine.
 #[derive(Clone, Copy, PartialEq, Eq)]
 pub enum Value {
-    /// A primitive value. All that is kept of it is whether it is marked.
-    Prim(bool),
+    /// A primitive value. All that is kept of it is its marks: bit c is one where it has a mark of
+    /// category c.
+    Prim(u8),
     Null,
     /// A reference to the object at a place of the heap.
     Ref(u64),
@@ -23,8 +24,8 @@ pub struct FieldValue {
 pub struct Object {
     pub token: Token,
     pub fields: FieldValues,
-    /// Whether the object itself is marked.
-    pub mark: bool,
+    /// The marks of the object itself: bit c is one where it has a mark of category c.
+    pub mark: u8,
     /// The places of the objects that it holds otherwise than in fields: the elements of an array
     /// of references, or what library calls have put into it.
     pub bag: Numbers,

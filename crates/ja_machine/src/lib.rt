@@ -8,11 +8,8 @@ mod reach;
 
 pub use heap::{FieldValue, FieldValues, Heap, Object, Value};
 pub use law::{
-    law_heaps_grow, law_longer_runs_extend, law_operations, law_program_runs_go_on,
-    law_reaching_is_transitive, law_runs_go_on, law_small_programs, law_tests_answer,
-    law_unwritten_stays,
+    law_heaps_grow, law_longer_runs_extend, law_objects_have_their_fields, law_operations,
+    law_program_runs_go_on, law_reaching_is_transitive, law_runs_go_on, law_sets_of_categories,
+    law_small_programs, law_tests_answer, law_unwritten_stays,
 };
 pub use reach::{reaches, tainted};
-
-#[cfg(test)]
-mod tests;

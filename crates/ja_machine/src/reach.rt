@@ -1,9 +1,10 @@
 ghost use Rattle.std.specs.Prelude.{◌≡◌, ◌<◌, ◌↔◌, Bool, List, ℕ, IfOk, IsTrue, OnOk, length, true};
 ghost use Rattle.std.specs.List.{list_any};
+ghost use Rattle.ja_machine.specs.Marks as marks;
 ghost use Rattle.ja_machine.specs.Reach as reach;
 ghost use Rattle.ja_machine.specs.Reach.{IsClosed, IsInside, IsTainted, Reaches};
-ghost use Rattle.ja_machine.specs.Search as search;
-ghost use Rattle.ja_machine.specs.Search.{meets_fields, meets_object, meets_place, meets_places, meets_value};
+ghost use Rattle.ja_machine.specs.InnerSearch as search;
+ghost use Rattle.ja_machine.specs.InnerSearch.{meets_fields, meets_object, meets_place, meets_places, meets_value};
 
 use crate::{FieldValue, Heap, Object, Value};
 use ja_base::Memory;
@@ -21,56 +22,69 @@ pub fn reaches(alloc: Global, h: &Heap, a: u64, b: u64) -> Result<bool, Memory>
     Ok(seen[b as usize])
 }
 
-/// Whether a value is tainted: it is a marked primitive, or a reference from which an object is reached
-/// that is marked or has a marked primitive in a field. The time is linear in the heap's size.
-pub fn tainted(alloc: Global, h: &Heap, v: &Value) -> Result<bool, Memory>
+/// Whether a value is tainted in category `c`: it is a primitive with a mark of the category, or a
+/// reference from which an object is reached that has one, or has such a primitive in a field. The time
+/// is linear in the heap's size.
+pub fn tainted(alloc: Global, h: &Heap, v: &Value, c: u32) -> Result<bool, Memory>
     requires closed { IsClosed h.now }
     requires inside { IsInside h.now v.now }
-    ensures { IfOk result (λ answer. IsTrue answer ↔ IsTainted h.now v.now) }
+    requires category { c < 8 }
+    ensures { IfOk result (λ answer. IsTrue answer ↔ IsTainted c h.now v.now) }
 {
     match v {
-        Value::Prim(mark) => Ok(*mark),
+        Value::Prim(mark) => Ok(has(*mark, c)),
         Value::Null => Ok(false),
         Value::Ref(place) => {
             let seen = reached(alloc, h, *place)?;
-            Ok(is_any_marked(h.as_slice(), seen.as_slice()))
+            Ok(is_any_marked(h.as_slice(), seen.as_slice(), c))
         }
     }
 }
 
-/// Whether some object is marked whose flag is set.
-fn is_any_marked(objects: &[Object], flags: &[bool]) -> bool
-    ensures { result ≡ search.is_any_marked objects.now flags.now }
+/// Whether some object has a mark of category `c` whose flag is set.
+fn is_any_marked(objects: &[Object], flags: &[bool], c: u32) -> bool
+    requires { c < 8 }
+    ensures { result ≡ search.is_any_marked c objects.now flags.now }
 {
     objects
         .iter()
         .zip(flags)
-        .any(|(object, flag)| *flag && is_marked(object))
+        .any(|(object, flag)| *flag && is_marked(object, c))
 }
 
-/// Whether an object is marked, or has a marked primitive in a field.
-fn is_marked(object: &Object) -> bool
-    ensures { result ≡ reach.is_marked object.now }
+/// Whether an object has a mark of category `c`, or a primitive with one in a field.
+fn is_marked(object: &Object, c: u32) -> bool
+    requires { c < 8 }
+    ensures { result ≡ reach.is_marked c object.now }
 {
-    let in_field = has_marked_field(object.fields.as_slice());
-    object.mark || in_field
+    let in_field = has_marked_field(object.fields.as_slice(), c);
+    has(object.mark, c) || in_field
 }
 
-/// Whether one of the fields has a marked primitive.
-fn has_marked_field(fields: &[FieldValue]) -> bool
-    ensures { result ≡ list_any (λ field. reach.mark_of field.value) fields.now }
+/// Whether one of the fields has a primitive with a mark of category `c`.
+fn has_marked_field(fields: &[FieldValue], c: u32) -> bool
+    requires { c < 8 }
+    ensures { result ≡ list_any (λ field. marks.has (reach.mark_of field.value) c) fields.now }
 {
-    fields.iter().any(|field| mark_of(&field.value))
+    fields.iter().any(|field| has(mark_of(&field.value), c))
 }
 
-/// The mark of a primitive value.
-fn mark_of(value: &Value) -> bool
+/// The marks of a primitive value.
+fn mark_of(value: &Value) -> u8
     ensures { result ≡ reach.mark_of value.now }
 {
     match value {
         Value::Prim(mark) => *mark,
-        Value::Null | Value::Ref(_) => false,
+        Value::Null | Value::Ref(_) => 0,
     }
+}
+
+/// Whether category `c` is among these marks.
+fn has(mark: u8, c: u32) -> bool
+    requires { c < 8 }
+    ensures { result ≡ marks.has mark c }
+{
+    (mark >> c) & 1 == 1
 }
 
 /// For each object whether it is reached from the one at this place.
@@ -98,7 +112,7 @@ struct Search {
 }
 
 impl Search {
-    ghost use Rattle.ja_machine.specs.Searches.{seen_by};
+    ghost use Rattle.ja_machine.specs.InnerSeen.{seen_by};
 
     /// A search in a heap of `size` objects that has met one place.
     fn begin(alloc: Global, size: u64, place: u64) -> Result<Search, Memory>

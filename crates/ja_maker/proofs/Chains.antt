@@ -3,7 +3,7 @@ use Rattle.std.specs.Prelude.{codes}
 use Rattle.std.proofs.Common.{◌≡◌, ℕ, List, [], ◌++◌, length, Option, sym, ap, ◌∙◌, append_assoc, Some, ◌∷◌}
 use mathlib.Core.Path.{fun_ext}
 use Rattle.std.proofs.lemmas.List.{length-map}
-use Rattle.ja_attr.specs.Attribute.{code_bytes, attributes_bytes}
+use Rattle.ja_attributes.specs.Attribute.{code_bytes, attributes_bytes}
 use Rattle.ja_listing.specs.declared.item.Frame.{Frame}
 use Rattle.ja_assembly.specs.Members.{Labelled, Range, place_of_label}
 use Rattle.ja_assembly.specs.Assembled.{Pool, u2, u4, row_of, instruction_bytes, code_of, text_index, attributes_of}

@@ -3,7 +3,7 @@ use Rattle.std.proofs.Common.{◌≡◌, ℕ, List, [], ◌∷◌, ◌++◌, Opt
 use Rattle.std.specs.Prelude.{codes}
 use Rattle.std.proofs.lemmas.List.{append-nil}
 use Rattle.ja_code.specs.Opcode.{form_at}
-use Rattle.ja_attr.specs.Attribute.{code_bytes, attributes_bytes}
+use Rattle.ja_attributes.specs.Attribute.{code_bytes, attributes_bytes}
 use Rattle.ja_class.specs.ClassFile.{member_bytes}
 use Rattle.ja_listing.specs.declared.item.MemberName.{MemberName}
 use Rattle.ja_listing.specs.declared.item.Operand.TheVariants.{Nothing, MethodName}

@@ -10,11 +10,11 @@ use Rattle.ja_class.specs.ClassFile.{MemberInfo, member_bytes, spelling}
 use Rattle.ja_listing.specs.Listed.{Listed}
 use Rattle.ja_assembly.specs.declared.key.Key.{Key}
 use Rattle.ja_assembly.specs.declared.key.Key.TheVariants as keys
-use Rattle.ja_judge.specs.declared.wants.Wants.{Wants}
+use Rattle.ja_writable.specs.declared.wants.Wants.{Wants}
 use Rattle.ja_assembly.specs.Members.{fields, methods, items_of_class}
 use Rattle.ja_assembly.specs.Wanted.{entries}
 use Rattle.ja_assembly.specs.Unwritable.{CannotBeWritten, before, expansion}
-use Rattle.ja_judge.specs.Judging.{IsAllowed}
+use Rattle.ja_writable.specs.Judging.{IsAllowed}
 use Rattle.ja_assembly.specs.Assembled.{Pool, u2, u4, class_index, string_entry, key_entry, entries_of, field_info, method_info, pool_for, file_in}
 use Rattle.ja_maker.specs.Writing.{pool_in, IsFew, members_bytes}
 

@@ -1,10 +1,10 @@
 -- What the private functions that write class files speak of. A reader of the public contracts need not look here.
 use Rattle.std.specs.Prelude.{ℕ, ◌+◌, ◌≤◌, List, ◌++◌, length, map, Option}
 use Rattle.std.specs.List.{flat_map}
-use Rattle.ja_attr.specs.Attribute.{handler_bytes}
+use Rattle.ja_attributes.specs.Attribute.{handler_bytes}
 use Rattle.ja_class.specs.ClassFile.{MemberInfo, member_bytes}
 use Rattle.ja_listing.specs.declared.item.Frame.{Frame}
-use Rattle.ja_judge.specs.declared.wants.Wants.{Wants}
+use Rattle.ja_writable.specs.declared.wants.Wants.{Wants}
 use Rattle.ja_assembly.specs.Members.{Range}
 use Rattle.ja_assembly.specs.Assembled.{Pool, u2, u4, row_of}
 

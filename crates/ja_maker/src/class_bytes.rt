@@ -2,7 +2,7 @@
 
 ghost use Rattle.std.specs.Prelude.{◌≡◌, ◌++◌, ℕ, List, length, map, OnOk, IfOk};
 ghost use Rattle.std.specs.List.{flat_map};
-ghost use Rattle.ja_attr.specs.Attribute.{attributes_bytes, code_bytes};
+ghost use Rattle.ja_attributes.specs.Attribute.{attributes_bytes, code_bytes};
 ghost use Rattle.ja_class.specs.ClassFile.{member_bytes};
 ghost use Rattle.ja_assembly.specs.Members.{expanded, fields, instructions_in, ranges_in};
 ghost use Rattle.ja_assembly.specs.Assembled.{u2, text_index, code_of, attributes_of, field_info, method_info};
@@ -14,8 +14,8 @@ use crate::pool_bytes::text_index;
 use crate::put::put_u2;
 use ja_assembly::{labels_of, parted, place_behind};
 use ja_base::{Bytes, Memory, Name};
-use ja_judge::Wants;
 use ja_listing::{Frame, Item, Number};
+use ja_writable::Wants;
 use std::alloc::Global;
 
 /// What stands before the attributes of a field or a method.

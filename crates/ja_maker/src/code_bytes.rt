@@ -14,8 +14,8 @@ use indexmap::IndexMap;
 use ja_assembly::{FIELD, argument_words, method_tag, parted, place_behind, size_of};
 use ja_base::{Bytes, Memory, Name};
 use ja_code::{Form, form_of};
-use ja_judge::Wants;
 use ja_listing::{Item, MemberName, Number, Operand};
+use ja_writable::Wants;
 use std::alloc::Global;
 
 /// Where the labels of a method stand.

@@ -2,7 +2,7 @@
 
 ghost use Rattle.std.specs.Prelude.{◌≡◌, ◌++◌, ℕ, List, length, map, OnOk, IfOk};
 ghost use Rattle.std.specs.List.{flat_map};
-ghost use Rattle.ja_attr.specs.Attribute.{code_bytes};
+ghost use Rattle.ja_attributes.specs.Attribute.{code_bytes};
 ghost use Rattle.ja_class.specs.ClassFile.{member_bytes};
 ghost use Rattle.ja_assembly.specs.Members.{expanded, methods, instructions_in, ranges_in};
 ghost use Rattle.ja_assembly.specs.Labels.{places};
@@ -15,8 +15,8 @@ use crate::code_bytes::{Labels, put_instruction, put_instructions};
 use crate::method_bytes::{content_of, put_code};
 use ja_assembly::{constructor_of, labels_of, parted, place_behind};
 use ja_base::{Bytes, Memory, Name};
-use ja_judge::Wants;
 use ja_listing::{Frame, Item, Number, Operand};
+use ja_writable::Wants;
 use std::alloc::Global;
 
 /// Opcodes (JVM specification 6.5).

@@ -11,12 +11,9 @@ mod put;
 mod write;
 
 pub use ja_assembly::{law_argument_words, law_read_back, law_written};
-pub use ja_judge::check_class;
 pub use ja_listing::{
     Frame, Head, Item, Items, Listing, Listings, MakeFault, MemberName, Number, Operand,
     read_listing,
 };
+pub use ja_writable::check_class;
 pub use write::write_class;
-
-#[cfg(test)]
-mod tests;

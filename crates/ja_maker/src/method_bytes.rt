@@ -1,7 +1,7 @@
 //! Methods with their code (JVM specification 4.6, 4.7.3).
 
 ghost use Rattle.std.specs.Prelude.{◌≡◌, ◌++◌, ◌∷◌, [], ℕ, List, codes, length, OnOk, IfOk};
-ghost use Rattle.ja_attr.specs.Attribute.{attributes_bytes, handler_bytes};
+ghost use Rattle.ja_attributes.specs.Attribute.{attributes_bytes, handler_bytes};
 ghost use Rattle.ja_assembly.specs.Labels.{places};
 ghost use Rattle.ja_assembly.specs.Assembled.{u2, catch_index, row_of, text_index};
 ghost use Rattle.ja_assembly.specs.Members.{ranges_in};
@@ -12,8 +12,8 @@ use crate::pool_bytes::{class_index, text_index};
 use crate::put::{put_bytes, put_u2, put_u4};
 use ja_assembly::{parted, place_behind};
 use ja_base::{Bytes, Memory, Name};
-use ja_judge::Wants;
 use ja_listing::{Frame, Item};
+use ja_writable::Wants;
 use std::alloc::Global;
 
 /// The index of what is caught, 0 for anything.

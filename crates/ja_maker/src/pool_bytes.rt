@@ -10,8 +10,8 @@ ghost use Rattle.ja_maker.specs.Writing.{pool_in, IsFew};
 use crate::put::{put_bytes, put_u1, put_u2};
 use ja_assembly::Key;
 use ja_base::{Bytes, Memory, Name};
-use ja_judge::Wants;
 use ja_listing::MemberName;
+use ja_writable::Wants;
 use std::alloc::Global;
 
 /// The tags of entries (JVM specification table 4.4-A).

@@ -8,7 +8,7 @@ ghost use Rattle.ja_maker.specs.Writing.{pool_in, IsFew};
 
 use crate::pool_bytes::{put_key, put_string};
 use ja_base::{Bytes, Memory};
-use ja_judge::Wants;
+use ja_writable::Wants;
 use std::alloc::Global;
 
 /// The strings of a pool.

@@ -8,7 +8,7 @@ ghost use Rattle.ja_class.specs.ClassFile.{spelling};
 ghost use Rattle.ja_listing.specs.Listed.{Listed};
 ghost use Rattle.ja_assembly.specs.Members.{expanded, fields, methods};
 ghost use Rattle.ja_assembly.specs.Unwritable.{IsWritable, IsFirstUnwritable, IsCause, Passes, Refuses};
-ghost use Rattle.ja_judge.specs.Judging.{IsAllowed};
+ghost use Rattle.ja_writable.specs.Judging.{IsAllowed};
 ghost use Rattle.ja_assembly.specs.Assembled.{u2, u4, class_index, entries_of, field_info, method_info, file_in, file_of};
 ghost use Rattle.ja_assembly.specs.Written.{IsWritten};
 ghost use Rattle.ja_maker.specs.Writing.{pool_in, IsFew, members_bytes};
@@ -20,8 +20,8 @@ use crate::pool_lists::{put_keys, put_strings};
 use crate::put::{put_u2, put_u4};
 use ja_assembly::law_written;
 use ja_base::{Bytes, Memory, Name};
-use ja_judge::{Wants, judge};
 use ja_listing::{Head, Item, Listing, MakeFault};
+use ja_writable::{Wants, judge};
 use std::alloc::Global;
 
 /// The number with which each class file begins.

@@ -12,7 +12,7 @@ use Rattle.ja_ir.specs.declared.method.Handler.{Handler}
 use Rattle.ja_class.specs.declared.class.ClassMethod.{ClassMethod}
 use Rattle.ja_class.specs.Meaning.{ClassSpelled}
 use Rattle.ja_class.specs.ClassFile.{IsSpelled}
-use Rattle.ja_lib.specs.declared.row.TableRow.{TableRow}
+use Rattle.ja_lib.specs.Content.{Content}
 use Rattle.ja_kinds.specs.declared.fault.KindFault.{KindFault}
 use Rattle.ja_kinds.specs.declared.fault.KindFault.TheVariants as kind_faults
 use Rattle.ja_kinds.specs.declared.state.KindState.{KindState}
@@ -54,7 +54,7 @@ code-refused heads class c m head refusal at not-native (inl memory) = inl memor
 code-refused heads class c m head refusal at not-native (inr is) = inr (IsRefused.coded at not-native is)
 
 -- a method has few instructions
-pub content-few : (heads : List ClassHead) (rows : List TableRow) (class : ClassSpelled) → IsSpelled class → (c m : ℕ) (body : ClassMethod) (o : Option Code) (list : List Instr) (handlers : List Handler)
+pub content-few : (heads : List ClassHead) (rows : Content) (class : ClassSpelled) → IsSpelled class → (c m : ℕ) (body : ClassMethod) (o : Option Code) (list : List Instr) (handlers : List Handler)
     → slice_get class.methods m ≡ Some body → body.code ≡ o → HasContent heads rows class c m o list handlers → length list ≤ 65535
 content-few heads rows class spelled c m body None list handlers at e has = omega (arith, ap length has.0)
 content-few heads rows class spelled c m body (Some code) list handlers at e has =

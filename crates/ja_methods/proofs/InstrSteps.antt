@@ -8,19 +8,19 @@ use Rattle.ja_pool.specs.Table.{Table}
 use Rattle.ja_code.specs.declared.instr.RawInstr.{RawInstr}
 use Rattle.ja_ir.specs.declared.head.ClassHead.{ClassHead}
 use Rattle.ja_ir.specs.declared.method.Instr.{Instr}
-use Rattle.ja_lib.specs.declared.row.TableRow.{TableRow}
+use Rattle.ja_lib.specs.Content.{Content}
 use Rattle.ja_kinds.specs.declared.state.KindState.{KindState}
 use Rattle.ja_kinds.specs.Effect.{IsOneOf}
-use Rattle.ja_ops.specs.declared.fault.OpFault.{OpFault}
-use Rattle.ja_ops.specs.declared.fault.OpFault.TheVariants as op_faults
-use Rattle.ja_ops.specs.Refused.{IsRefusedFor, UnlessMemory}
+use Rattle.ja_operations.specs.declared.fault.OpFault.{OpFault}
+use Rattle.ja_operations.specs.declared.fault.OpFault.TheVariants as op_faults
+use Rattle.ja_operations.specs.Refused.{IsRefusedFor, UnlessMemory}
 use Rattle.ja_methods.specs.declared.fault.MethodFault.{MethodFault}
 use Rattle.ja_methods.specs.declared.fault.MethodFault.TheVariants as faults
 use Rattle.ja_methods.specs.Method.{state_before, IsInstrOf, AreInstrsOf}
 use Rattle.ja_methods.specs.Refusal.{instr_refusal, IsUnrefused, IsRefusalOf, NoneBefore, IsFirstRefusal}
 
 -- the instructions before an index, none of which is refused
-pub record InstrsBelow (heads : List ClassHead) (rows : List TableRow) (c : ℕ) (pool : Table) (instrs : List RawInstr) (kinds : List (Option KindState)) (k : ℕ) (list : List Instr) : Type 0 where
+pub record InstrsBelow (heads : List ClassHead) (rows : Content) (c : ℕ) (pool : Table) (instrs : List RawInstr) (kinds : List (Option KindState)) (k : ℕ) (list : List Instr) : Type 0 where
   pub size : length list ≡ k
   pub each : (j : ℕ) (raw : RawInstr) (instr : Instr) → slice_get instrs j ≡ Some raw → slice_get list j ≡ Some instr
       → IsInstrOf heads rows c pool instrs (state_before kinds j) j raw instr
@@ -42,10 +42,10 @@ pushed-at [] y (suc j) x at = absurd (cc)
 pushed-at (z ∷ xs) y zero x at = inl at
 pushed-at (z ∷ xs) y (suc j) x at = elim (pushed-at xs y j x at) [ inl before ↦ inl before | inr last ↦ inr (ap suc last.0, last.1) ]
 
-pub instrs-none : (heads : List ClassHead) (rows : List TableRow) (c : ℕ) (pool : Table) (instrs : List RawInstr) (kinds : List (Option KindState)) → InstrsBelow heads rows c pool instrs kinds 0 []
+pub instrs-none : (heads : List ClassHead) (rows : Content) (c : ℕ) (pool : Table) (instrs : List RawInstr) (kinds : List (Option KindState)) → InstrsBelow heads rows c pool instrs kinds 0 []
 instrs-none heads rows c pool instrs kinds = record { size = refl; each = λ j raw instr at there. absurd (cc); clean = λ j raw lt. absurd (omega arith) }
 
-pub instrs-more : (heads : List ClassHead) (rows : List TableRow) (c : ℕ) (pool : Table) (instrs : List RawInstr) (kinds : List (Option KindState)) (k : ℕ) (list new : List Instr) (raw : RawInstr) (instr : Instr) (before : Option KindState)
+pub instrs-more : (heads : List ClassHead) (rows : Content) (c : ℕ) (pool : Table) (instrs : List RawInstr) (kinds : List (Option KindState)) (k : ℕ) (list new : List Instr) (raw : RawInstr) (instr : Instr) (before : Option KindState)
     → slice_get instrs k ≡ Some raw → slice_get kinds k ≡ Some before → InstrsBelow heads rows c pool instrs kinds k list → IsInstrOf heads rows c pool instrs before k raw instr → IsUnrefused heads c pool raw
     → new ≡ list ++ instr ∷ [] → InstrsBelow heads rows c pool instrs kinds (k + 1) new
 instrs-more heads rows c pool instrs kinds k list new raw instr before at known below is unrefused e =
@@ -68,12 +68,12 @@ instrs-more heads rows c pool instrs kinds k list new raw instr before at known 
       ];
     }
 
-pub instrs-all : (heads : List ClassHead) (rows : List TableRow) (c : ℕ) (pool : Table) (instrs : List RawInstr) (kinds : List (Option KindState)) (k : ℕ) (list : List Instr) → k ≡ length instrs
+pub instrs-all : (heads : List ClassHead) (rows : Content) (c : ℕ) (pool : Table) (instrs : List RawInstr) (kinds : List (Option KindState)) (k : ℕ) (list : List Instr) → k ≡ length instrs
     → InstrsBelow heads rows c pool instrs kinds k list → AreInstrsOf heads rows c pool instrs kinds list
 instrs-all heads rows c pool instrs kinds k list e below = record { size = below.size ∙ e; each = below.each }
 
 -- the first refusal
-pub first-refusal : (heads : List ClassHead) (rows : List TableRow) (c : ℕ) (pool : Table) (instrs : List RawInstr) (kinds : List (Option KindState)) (k : ℕ) (list : List Instr) (raw : RawInstr) (refusal : MethodFault)
+pub first-refusal : (heads : List ClassHead) (rows : Content) (c : ℕ) (pool : Table) (instrs : List RawInstr) (kinds : List (Option KindState)) (k : ℕ) (list : List Instr) (raw : RawInstr) (refusal : MethodFault)
     → slice_get instrs k ≡ Some raw → InstrsBelow heads rows c pool instrs kinds k list → (refusal ≡ faults.Memory) ⊎ IsRefusalOf heads c pool raw refusal
     → (refusal ≡ faults.Memory) ⊎ IsFirstRefusal heads c pool instrs refusal
 first-refusal heads rows c pool instrs kinds k list raw refusal at below (inl memory) = inl memory

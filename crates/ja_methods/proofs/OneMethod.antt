@@ -3,6 +3,9 @@ use Rattle.std.proofs.Common.{◌≡◌, ℕ, suc, inl, inr, false, List, [], �
 use Rattle.std.specs.Prelude.{slice_get}
 use Rattle.std.proofs.lemmas.Bool.{cases_lt}
 use Rattle.std.proofs.lemmas.Option.{slice_get_within}
+use Rattle.ja_base.specs.declared.java_type.Desc.{Desc}
+use Rattle.ja_base.specs.declared.java_type.JavaType.{JavaType}
+use Rattle.ja_base.specs.Descriptor.{AreTypes, IsMethod, words_of_all}
 use Rattle.ja_pool.specs.Table.{Table}
 use Rattle.ja_code.specs.declared.instr.RawInstr.{RawInstr}
 use Rattle.ja_code.specs.declared.code.Code.{Code}
@@ -14,13 +17,13 @@ use Rattle.ja_ir.specs.declared.method.Handler.{Handler}
 use Rattle.ja_ir.specs.declared.op.Op.{Op}
 use Rattle.ja_class.specs.declared.class.ClassMethod.{ClassMethod}
 use Rattle.ja_class.specs.Meaning.{ClassSpelled}
-use Rattle.ja_lib.specs.declared.row.TableRow.{TableRow}
+use Rattle.ja_lib.specs.Content.{Content}
 use Rattle.ja_kinds.specs.declared.fault.KindFault.{KindFault}
 use Rattle.ja_kinds.specs.declared.state.KindState.{KindState}
 use Rattle.ja_kinds.specs.Answer.{AreKindsOf, IsFaultOf}
-use Rattle.ja_ops.specs.declared.fault.OpFault.{OpFault}
-use Rattle.ja_ops.specs.Operation.{IsOperation}
-use Rattle.ja_ops.specs.Refused.{IsRefusedFor}
+use Rattle.ja_operations.specs.declared.fault.OpFault.{OpFault}
+use Rattle.ja_operations.specs.Operation.{IsOperation}
+use Rattle.ja_operations.specs.Refused.{IsRefusedFor}
 use Rattle.ja_methods.specs.declared.fault.MethodFault.{MethodFault}
 use Rattle.ja_methods.specs.Method.{state_before, is_native, AreInstrsOf, HasContent, IsCodeOf, IsMethodOf}
 use Rattle.ja_methods.specs.Refusal.{kind_refusal, instr_refusal, IsFirstRefusal, IsCodeRefused, IsRefused}
@@ -49,12 +52,12 @@ KindsOrFault = (class : ClassSpelled) (m : ℕ) (kinds : List (Option KindState)
 
 abbrev pub OneOperation : Type 0
 OneOperation =
-    (heads : List ClassHead) (rows : List TableRow) (c : ℕ) (pool : Table) (i : RawInstr) (before : Option KindState) (op other : Op)
+    (heads : List ClassHead) (rows : Content) (c : ℕ) (pool : Table) (i : RawInstr) (before : Option KindState) (op other : Op)
     → IsOperation heads rows c pool i before op → IsOperation heads rows c pool i before other → op ≡ other
 
 abbrev pub OperationOrRefusal : Type 0
 OperationOrRefusal =
-    (heads : List ClassHead) (rows : List TableRow) (c : ℕ) (pool : Table) (i : RawInstr) (before : Option KindState) (op : Op) (fault : OpFault)
+    (heads : List ClassHead) (rows : Content) (c : ℕ) (pool : Table) (i : RawInstr) (before : Option KindState) (op : Op) (fault : OpFault)
     → IsOperation heads rows c pool i before op → IsRefusedFor heads c pool i fault → ⊥
 
 abbrev pub OneRefusal : Type 0
@@ -63,11 +66,12 @@ OneRefusal = (heads : List ClassHead) (c : ℕ) (pool : Table) (i : RawInstr) (f
 same-instr : (a b : Instr) → a.pc ≡ b.pc → a.op ≡ b.op → a.next ≡ b.next → a.height ≡ b.height → a.reached ≡ b.reached → a ≡ b
 same-instr a b p o n h r = λ i. record { pc = p i; op = o i; next = n i; height = h i; reached = r i }
 
-same-method : (a b : Method) → a.class.0 ≡ b.class.0 → a.name ≡ b.name → a.desc ≡ b.desc → a.flags ≡ b.flags → a.locals ≡ b.locals → a.stack ≡ b.stack → a.code ≡ b.code → a.handlers ≡ b.handlers → a ≡ b
-same-method a b c n d f l s e h = λ i. record {
+same-method : (a b : Method) → a.class.0 ≡ b.class.0 → a.name ≡ b.name → a.desc ≡ b.desc → a.types ≡ b.types → a.flags ≡ b.flags → a.locals ≡ b.locals → a.stack ≡ b.stack → a.code ≡ b.code → a.handlers ≡ b.handlers → a ≡ b
+same-method a b c n d t f l s e h = λ i. record {
   class = record { 0 = c i };
   name = n i;
   desc = d i;
+  types = t i;
   flags = f i;
   locals = l i;
   stack = s i;
@@ -75,7 +79,7 @@ same-method a b c n d f l s e h = λ i. record {
   handlers = h i;
 }
 
-one-instrs : OneOperation → (heads : List ClassHead) (rows : List TableRow) (c : ℕ) (pool : Table) (instrs : List RawInstr) (kinds : List (Option KindState)) (list other : List Instr)
+one-instrs : OneOperation → (heads : List ClassHead) (rows : Content) (c : ℕ) (pool : Table) (instrs : List RawInstr) (kinds : List (Option KindState)) (list other : List Instr)
     → AreInstrsOf heads rows c pool instrs kinds list → AreInstrsOf heads rows c pool instrs kinds other → list ≡ other
 one-instrs one heads rows c pool instrs kinds list other p q =
     list-ext list other (p.size ∙ sym q.size) (λ k a b at there.
@@ -88,9 +92,9 @@ record Same (list other : List Instr) (handlers others : List Handler) : Type 0 
   code : list ≡ other
   table : handlers ≡ others
 
-one-content : OneKinds → OneOperation → (heads : List ClassHead) (rows : List TableRow) (class : ClassSpelled) (c m : ℕ) (o : Option Code) (list other : List Instr) (handlers others : List Handler)
+one-content : OneKinds → OneOperation → (heads : List ClassHead) (rows : Content) (class : ClassSpelled) (c m : ℕ) (o : Option Code) (list other : List Instr) (handlers others : List Handler)
     → HasContent heads rows class c m o list handlers → HasContent heads rows class c m o other others → Same list other handlers others
-one-content kinds one heads rows class c m None list other handlers others p q = record { code = p.0 ∙ sym q.0; table = p.1 ∙ sym q.1 }
+one-content kinds one heads table class c m None list other handlers others p q = record { code = p.0 ∙ sym q.0; table = p.1 ∙ sym q.1 }
 one-content kinds one heads rows class c m (Some code) list other handlers others p q =
     let same : q.kinds ≡ p.kinds = kinds class m q.kinds p.kinds q.are_kinds p.are_kinds in
     record {
@@ -99,15 +103,29 @@ one-content kinds one heads rows class c m (Some code) list other handlers other
       table = p.handlers_are ∙ sym q.handlers_are;
     }
 
+-- what a descriptor spells is one
+abbrev pub OneReading : Type 0
+OneReading =
+    (text : List ℕ) (params others : List JavaType) (result other : Option JavaType)
+    → IsMethod text params result → IsMethod text others other → (params ≡ others) × (result ≡ other)
+
+one-types : OneReading → (text other : List ℕ) (a b : Desc) → text ≡ other → AreTypes text a → AreTypes other b → a ≡ b
+one-types reading text other a b e p q =
+    let both : (a.params ≡ b.params) × (a.result ≡ b.result) =
+    reading other a.params b.params a.result b.result (subst (λ (t : List ℕ). IsMethod t a.params a.result) e p.spelled) q.spelled in
+    let words : a.words ≡ b.words = p.words ∙ ap words_of_all both.0 ∙ sym q.words in
+    λ i. record { params = both.0 i; result = both.1 i; words = words i }
+
 -- a class has one method of a number
-pub one-method : OneKinds → OneOperation → (heads : List ClassHead) (rows : List TableRow) (class : ClassSpelled) (c m : ℕ) (a b : Method) → IsMethodOf heads rows class c m a → IsMethodOf heads rows class c m b → a ≡ b
-one-method kinds one heads rows class c m a b p q =
+pub one-method : OneKinds → OneOperation → OneReading → (heads : List ClassHead) (rows : Content) (class : ClassSpelled) (c m : ℕ) (a b : Method) → IsMethodOf heads rows class c m a → IsMethodOf heads rows class c m b → a ≡ b
+one-method kinds one reading heads rows class c m a b p q =
     let head : p.head ≡ q.head = same-item class.head.methods m m p.head q.head refl p.declared.head_at q.declared.head_at in
     let body : p.body ≡ q.body = same-item class.methods m m p.body q.body refl p.declared.body_at q.declared.body_at in
     let content : Same a.code b.code a.handlers b.handlers =
     one-content kinds one heads rows class c m q.body.code a.code b.code a.handlers b.handlers
     (subst (λ (x : ClassMethod). HasContent heads rows class c m x.code a.code a.handlers) body p.content) q.content in
     same-method a b (p.class_is ∙ sym q.class_is) (p.name_is ∙ ap (λ (h : HeadMethod). h.name) head ∙ sym q.name_is) (p.desc_is ∙ ap (λ (h : HeadMethod). h.desc) head ∙ sym q.desc_is)
+    (one-types reading p.head.desc q.head.desc a.types b.types (ap (λ (h : HeadMethod). h.desc) head) p.types_are q.types_are)
     (p.flags_are ∙ ap (λ (h : HeadMethod). h.flags) head ∙ sym q.flags_are) (p.locals_are ∙ ap (λ (x : ClassMethod). x.max_locals) body ∙ sym q.locals_are)
     (p.stack_is ∙ ap (λ (x : ClassMethod). x.max_stack) body ∙ sym q.stack_is) content.code content.table
 
@@ -154,7 +172,7 @@ one-refusal fault either one heads class c m x y (IsRefused.coded {head = g} a n
 
 -- ---- a method that is answered is not refused
 
-code-taken : KindsOrFault → OperationOrRefusal → (heads : List ClassHead) (rows : List TableRow) (class : ClassSpelled) (c m : ℕ) (body : ClassMethod) (o : Option Code) (list : List Instr) (handlers : List Handler) (x : MethodFault)
+code-taken : KindsOrFault → OperationOrRefusal → (heads : List ClassHead) (rows : Content) (class : ClassSpelled) (c m : ℕ) (body : ClassMethod) (o : Option Code) (list : List Instr) (handlers : List Handler) (x : MethodFault)
     → slice_get class.methods m ≡ Some body → body.code ≡ o → HasContent heads rows class c m o list handlers → IsCodeRefused heads class c m x → ⊥
 code-taken either one heads rows class c m body None list handlers x at e has (IsCodeRefused.kinds f p) =
     let same : p.has_frame.method ≡ body = same-item class.methods m m p.has_frame.method body refl p.has_frame.method_at at in
@@ -171,7 +189,7 @@ code-taken either one heads rows class c m body (Some code) list handlers x at e
     let instr : Found list first.k = found list first.k (omega (arith, has.instrs.size, slice_get_within code.instrs first.k first.raw here)) in
     one heads rows c class.pool first.raw (state_before has.kinds first.k) instr.item.op first.is.fault (has.instrs.each first.k first.raw instr.item here instr.at).operation first.is.refused
 
-pub not-both : KindsOrFault → OperationOrRefusal → (heads : List ClassHead) (rows : List TableRow) (class : ClassSpelled) (c m : ℕ) (method : Method) (x : MethodFault) → IsMethodOf heads rows class c m method
+pub not-both : KindsOrFault → OperationOrRefusal → (heads : List ClassHead) (rows : Content) (class : ClassSpelled) (c m : ℕ) (method : Method) (x : MethodFault) → IsMethodOf heads rows class c m method
     → IsRefused heads class c m x → ⊥
 not-both either one heads rows class c m method x is (IsRefused.native {head} at n) =
     let same : head ≡ is.head = same-item class.head.methods m m head is.head refl at is.declared.head_at in

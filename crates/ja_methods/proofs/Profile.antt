@@ -11,8 +11,8 @@ use Rattle.ja_code.specs.declared.handler.RawHandler.{RawHandler}
 use Rattle.ja_code.specs.declared.code.Code.{Code}
 use Rattle.ja_code.specs.Bytes as bytes
 use Rattle.ja_code.specs.Grammar.{Spells, is_start, is_handler}
-use Rattle.ja_attr.specs.Attribute.{AttributeInfo, SayCode}
-use Rattle.ja_attr.specs.declared.code.MethodCode.{MethodCode}
+use Rattle.ja_attributes.specs.Attribute.{AttributeInfo, SayCode}
+use Rattle.ja_attributes.specs.declared.code.MethodCode.{MethodCode}
 use Rattle.ja_ir.specs.declared.head.HeadMethod.{HeadMethod}
 use Rattle.ja_class.specs.declared.class.ClassMethod.{ClassMethod}
 use Rattle.ja_class.specs.Member.{IsMethodDesc}

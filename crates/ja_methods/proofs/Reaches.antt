@@ -20,7 +20,7 @@ use Rattle.ja_ir.specs.Handlers.{in_range}
 use Rattle.ja_ir.specs.Whole.{IsReachedAt, Runs}
 use Rattle.ja_class.specs.Meaning.{ClassSpelled}
 use Rattle.ja_class.specs.ClassFile.{IsSpelled}
-use Rattle.ja_lib.specs.declared.row.TableRow.{TableRow}
+use Rattle.ja_lib.specs.Content.{Content}
 use Rattle.ja_kinds.specs.declared.behaviour.Behaviour.{Behaviour}
 use Rattle.ja_kinds.specs.declared.effect.Effect.{Effect}
 use Rattle.ja_kinds.specs.declared.state.KindState.{KindState}
@@ -32,8 +32,8 @@ use Rattle.ja_kinds.specs.Answer.{AreKindsOf, known_of}
 use Rattle.ja_kinds.specs.Reached.{StartsAt, IsKnown, IsAccepted, IsReached, AreReached}
 use Rattle.ja_kinds.proofs.Reached.{does_something, all_reached}
 use Rattle.ja_kinds.proofs.Starts.{code_length}
-use Rattle.ja_ops.specs.Operation.{IsOperation}
-use Rattle.ja_ops.specs.Agreement.{Agrees, OperationsAgree, OperationsEnd, ReturnsAgree}
+use Rattle.ja_operations.specs.Operation.{IsOperation}
+use Rattle.ja_operations.specs.Agreement.{Agrees, OperationsAgree, OperationsEnd, ReturnsAgree}
 use Rattle.ja_methods.specs.Places.{index_of, following, next_by, is_at_or_past}
 use Rattle.ja_methods.specs.Handlers.{handler_of, handlers_of}
 use Rattle.ja_methods.specs.Method.{state_before, height_of, IsInstrOf, AreInstrsOf}
@@ -98,7 +98,7 @@ holds None e = absurd (cc)
 holds (Some f) e = record { state = f; is = refl }
 
 -- a method with code, by its kinds
-pub record IsCoded (heads : List ClassHead) (rows : List TableRow) (class : ClassSpelled) (c m : ℕ) (method : Method) : Type 0 where
+pub record IsCoded (heads : List ClassHead) (rows : Content) (class : ClassSpelled) (c m : ℕ) (method : Method) : Type 0 where
   pub kinds : List (Option KindState)
   pub are : AreKindsOf class m kinds
   pub decoded : IsDecoded class.pool are.code
@@ -107,7 +107,7 @@ pub record IsCoded (heads : List ClassHead) (rows : List TableRow) (class : Clas
   pub locals_are : method.locals ≡ are.frame.max_locals
   pub stack_is : method.stack ≡ are.frame.max_stack
 
-module _ (heads : List ClassHead) (rows : List TableRow) (class : ClassSpelled) (spelled : IsSpelled class) (c m : ℕ) (method : Method) (is : IsCoded heads rows class c m method) where
+module _ (heads : List ClassHead) (rows : Content) (class : ClassSpelled) (spelled : IsSpelled class) (c m : ℕ) (method : Method) (is : IsCoded heads rows class c m method) where
   abbrev pub raws : List RawInstr
   raws = is.are.code.instrs
 
@@ -228,7 +228,7 @@ module _ (heads : List ClassHead) (rows : List TableRow) (class : ClassSpelled) 
     agrees : Agrees instr.op before taken.result
     agrees =
         agree heads rows c class.pool raw instr.op deed.0 deed.1 is.are.frame before taken.result
-        (subst (λ (s : Option KindState). Rattle.ja_ops.specs.Operation.IsOperation heads rows c class.pool raw s instr.op) held.is is-of.operation) deed.2 taken.is
+        (subst (λ (s : Option KindState). Rattle.ja_operations.specs.Operation.IsOperation heads rows c class.pool raw s instr.op) held.is is-of.operation) deed.2 taken.is
 
     after-is : length taken.result.stack ≡ height_after instr.op instr.height
     after-is = sym agrees.height ∙ ap (height_after instr.op) (sym height-is)

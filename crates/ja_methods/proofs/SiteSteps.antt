@@ -9,7 +9,7 @@ use Rattle.ja_ir.specs.declared.head.ClassHead.{ClassHead}
 use Rattle.ja_ir.specs.declared.method.Instr.{Instr}
 use Rattle.ja_ir.specs.declared.op.Op.TheVariants.{Call}
 use Rattle.ja_ir.specs.declared.op.CallOp.{CallOp}
-use Rattle.ja_ops.specs.Sites.{IsSite, IsNoSite, sinks_of}
+use Rattle.ja_operations.specs.Sites.{IsSite, IsNoSite, sinks_of}
 use Rattle.ja_methods.specs.declared.site.MethodSite.{MethodSite}
 use Rattle.ja_methods.specs.Sites.{IsSiteAt, AreSitesOf, IsSilent, Joins}
 
@@ -21,8 +21,8 @@ pub record SitesBelow (heads : List ClassHead) (list : List Instr) (i : ℕ) (si
 pub sites-none : (heads : List ClassHead) (list : List Instr) → SitesBelow heads list 0 []
 sites-none heads list = record { exact = λ site. (λ in'. absurd (omega (arith, in'.1)), λ p. absurd (omega (arith, p.1))); sorted = λ i j d lt below. absurd (omega arith) }
 
-pub same-site : (a b : MethodSite) → a.index ≡ b.index → a.positions ≡ b.positions → a.target ≡ b.target → a ≡ b
-same-site a b i p t = λ k. record { index = i k; positions = p k; target = t k }
+pub same-site : (a b : MethodSite) → a.index ≡ b.index → a.positions ≡ b.positions → a.target ≡ b.target → a.category ≡ b.category → a ≡ b
+same-site a b i p t c = λ k. record { index = i k; positions = p k; target = t k; category = c k }
 
 -- an instruction of a list that is found twice is one
 same-instr : (list : List Instr) (j k : ℕ) (a b : Instr) → j ≡ k → slice_get list j ≡ Some a → slice_get list k ≡ Some b → a ≡ b
@@ -35,7 +35,8 @@ one-site heads list a b p q e =
     let same : p.instr ≡ q.instr = same-instr list a.index b.index p.instr q.instr e p.found q.found in
     let op : Call p.call ≡ Call q.call = sym p.is_call ∙ ap (λ (i : Instr). i.op) same ∙ q.is_call in
     let call : p.call ≡ q.call = cc in
-    same-site a b e (p.is_site.positions_are ∙ ap sinks_of call ∙ sym q.is_site.positions_are) (p.is_site.target_is ∙ ap Rattle.ja_ops.specs.Sites.target_of call ∙ sym q.is_site.target_is)
+    same-site a b e (p.is_site.positions_are ∙ ap sinks_of call ∙ sym q.is_site.positions_are) (p.is_site.target_is ∙ ap Rattle.ja_operations.specs.Sites.target_of call ∙ sym q.is_site.target_is)
+    (p.category_is ∙ ap (λ (x : CallOp). x.row.category) call ∙ sym q.category_is)
 
 pub sites-more : (heads : List ClassHead) (list : List Instr) (i : ℕ) (instr : Instr) (old new : List MethodSite) → slice_get list i ≡ Some instr → SitesBelow heads list i old → Joins heads i instr old new
     → SitesBelow heads list (i + 1) new
@@ -51,8 +52,8 @@ sites-more heads list i instr old new at below (Joins.silent quiet) = record {
   );
   sorted = below.sorted;
 }
-sites-more heads list i instr old new at below (Joins.sounding call s is-call at-index is-site) =
-    let whole : IsSiteAt heads list s = record { instr = instr; found = subst (λ (n : ℕ). slice_get list n ≡ Some instr) (sym at-index) at; call = call; is_call = is-call; is_site = is-site } in
+sites-more heads list i instr old new at below (Joins.sounding call s is-call at-index is-site category) =
+    let whole : IsSiteAt heads list s = record { instr = instr; found = subst (λ (n : ℕ). slice_get list n ≡ Some instr) (sym at-index) at; call = call; is_call = is-call; is_site = is-site; category_is = category } in
     record {
       exact = λ site. (
         λ in'. elim (Contains-push_cases old s site in') [
@@ -87,11 +88,11 @@ no-site-silent heads instr call is none other positions target is-other site =
     let e : call ≡ other = cc in
     elim none [
       | inl empty ↦ absurd (omega (arith, site.some, ap length (site.positions_are ∙ ap sinks_of (sym e) ∙ empty)))
-      | inr found ↦ absurd (found (subst (λ (x : CallOp). Rattle.ja_ops.specs.Sites.IsForeign heads x) (sym e) site.foreign))
+      | inr found ↦ absurd (found (subst (λ (x : CallOp). Rattle.ja_operations.specs.Sites.IsForeign heads x) (sym e) site.foreign))
     ]
 
 -- the sink call of an instruction, pushed
 pub pushed : {E : Type 0} (heads : List ClassHead) (index : ℕ) (instr : Instr) (call : CallOp) (site : MethodSite) (old new : List MethodSite) (result : Result (Unit {0}) E) → instr.op ≡ Call call → site.index ≡ index
-    → IsSite heads call site.positions site.target → OnOk result (new ≡ old ++ site ∷ []) → OnOk result (Joins heads index instr old new)
-pushed heads index instr call site old new (Ok x) is-call at is-site e = subst (λ (l : List MethodSite). Joins heads index instr old l) (sym e) (Joins.sounding call site is-call at is-site)
-pushed heads index instr call site old new (Err x) is-call at is-site e = tt
+    → IsSite heads call site.positions site.target → site.category ≡ call.row.category → OnOk result (new ≡ old ++ site ∷ []) → OnOk result (Joins heads index instr old new)
+pushed heads index instr call site old new (Ok x) is-call at is-site category e = subst (λ (l : List MethodSite). Joins heads index instr old l) (sym e) (Joins.sounding call site is-call at is-site category)
+pushed heads index instr call site old new (Err x) is-call at is-site category e = tt

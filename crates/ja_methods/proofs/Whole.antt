@@ -8,7 +8,8 @@ use Rattle.std.proofs.lemmas.List.Elements.{All-append}
 use Rattle.std.proofs.lemmas.List.Quantifiers.{position-Some}
 use Rattle.std.proofs.lemmas.List.Sums.{prefix_len-le-length, sum_by-cons}
 use Rattle.ja_base.specs.Kind.{words_of}
-use Rattle.ja_base.specs.Descriptor.{IsMethod, words_of_all}
+use Rattle.ja_base.specs.Descriptor.{AreTypes, IsMethod, words_of_all}
+use Rattle.ja_base.specs.declared.java_type.Desc.{Desc}
 use Rattle.ja_base.specs.declared.java_type.Kind.{Kind}
 use Rattle.ja_base.specs.declared.java_type.Kind.TheVariants.{P1, P2, R, T}
 use Rattle.ja_base.specs.declared.java_type.JavaType.{JavaType}
@@ -25,12 +26,12 @@ use Rattle.ja_ir.specs.declared.op.Op.{Op}
 use Rattle.ja_ir.specs.declared.op.Op.TheVariants as ops
 use Rattle.ja_ir.specs.Lookup.{is_abstract, is_member}
 use Rattle.ja_ir.specs.Operations.{count_of}
-use Rattle.ja_ir.specs.Whole.{SpellsMethod, ReturnsAs, Starts, IsReachedAt}
+use Rattle.ja_ir.specs.Whole.{ReturnsAs, Starts, IsReachedAt}
 use Rattle.ja_class.specs.declared.class.ClassMethod.{ClassMethod}
 use Rattle.ja_class.specs.Meaning.{ClassSpelled, is_static}
 use Rattle.ja_class.specs.ClassFile.{IsSpelled}
-use Rattle.ja_lib.specs.declared.row.TableRow.{TableRow}
-use Rattle.ja_supers.specs.Supertypes.{class_named, names_of}
+use Rattle.ja_lib.specs.Content.{Content, IsCategorized}
+use Rattle.ja_supertypes.specs.Supertypes.{class_named, names_of}
 use Rattle.ja_kinds.specs.declared.behaviour.Behaviour.{Behaviour}
 use Rattle.ja_kinds.specs.Behaviour.{behaviour_at}
 use Rattle.ja_kinds.specs.Frame.{filled, parameter_words, words}
@@ -40,13 +41,14 @@ use Rattle.ja_kinds.specs.Reached.{StartsAt, AreReached}
 use Rattle.ja_kinds.proofs.Reached.{all_reached}
 use Rattle.ja_kinds.proofs.Starts.{started, target_starts}
 use Rattle.ja_kinds.proofs.Opcodes.{branches_are}
-use Rattle.ja_ops.specs.Agreement.{OperationsAgree, OperationsEnd, ReturnsAgree, OperationsAreSound, IsSound}
+use Rattle.ja_operations.specs.Agreement.{OperationsAgree, OperationsEnd, ReturnsAgree, OperationsAreSound, RowsAreAbout, IsSound, IsRowAbout}
 use Rattle.ja_methods.specs.Places.{index_of, is_at_or_past, following, next_by}
 use Rattle.ja_methods.specs.Handlers.{caught, catch_of, handler_of}
 use Rattle.ja_methods.specs.Method.{is_native, IsCodeOf, HasContent, HasInstrs, IsMethodOf}
 use Rattle.ja_methods.specs.Whole.{NamesOneOf, LiesWithin, IsWholeIn}
 use Rattle.ja_methods.proofs.Chain.{index-at}
 use Rattle.ja_methods.proofs.InstrSteps.{same-item}
+use Rattle.ja_methods.proofs.OneMethod.{OneReading}
 use Rattle.ja_methods.proofs.Profile.{IsRight, decoded, rows-right, codes-need, none-need, none-frame, method-desc}
 use Rattle.ja_methods.proofs.Coded.{code-chain}
 use Rattle.ja_methods.proofs.Heights.{frame-small}
@@ -54,7 +56,7 @@ use Rattle.ja_methods.proofs.Reaches.{At, Found, IsCoded, place-of, one-at, all-
 
 -- ---- a method with code
 
-coded-of : (heads : List ClassHead) (rows : List TableRow) (class : ClassSpelled) → IsSpelled class → (c m : ℕ) (method : Method) (is : IsMethodOf heads rows class c m method) (code : Code)
+coded-of : (heads : List ClassHead) (rows : Content) (class : ClassSpelled) → IsSpelled class → (c m : ℕ) (method : Method) (is : IsMethodOf heads rows class c m method) (code : Code)
     → is.body.code ≡ Some code → IsCoded heads rows class c m method
 coded-of heads rows class spelled c m method is code e =
     let has : HasInstrs heads rows class c m code method.code method.handlers = subst (λ (o : Option Code). HasContent heads rows class c m o method.code method.handlers) e is.content in
@@ -109,13 +111,19 @@ flags-none false b off e g = absurd (cc)
 
 -- ---- returns
 
-returns-as : (desc : List ℕ) (params : List JavaType) (result : Option JavaType) → IsMethod desc params result → (op : Op)
-    → ((kind : Option Kind) → op ≡ ops.Return kind → may_return (option_map kind_of_type result) kind ≡ true) → ReturnsAs desc op
-returns-as desc params None spelled (ops.Return None) may = (params, spelled)
-returns-as desc params (Some t) spelled (ops.Return None) may = (let e : false ≡ true = may None refl in absurd (cc))
-returns-as desc params None spelled (ops.Return (Some k)) may = (let e : false ≡ true = may (Some k) refl in absurd (cc))
-returns-as desc params (Some t) spelled (ops.Return (Some k)) may = (params, t, spelled)
-returns-as desc params result spelled op may = tt
+returns-as : (result : Option JavaType) (op : Op) → ((kind : Option Kind) → op ≡ ops.Return kind → may_return (option_map kind_of_type result) kind ≡ true) → ReturnsAs result op
+returns-as None (ops.Return None) may = refl
+returns-as (Some t) (ops.Return None) may = (let e : false ≡ true = may None refl in absurd (cc))
+returns-as None (ops.Return (Some k)) may = (let e : false ≡ true = may (Some k) refl in absurd (cc))
+returns-as (Some t) (ops.Return (Some k)) may = (t, refl)
+returns-as result op may = tt
+
+-- ---- types
+
+same-types : OneReading → (text other : List ℕ) (types : Desc) (params : List JavaType) (result : Option JavaType) → text ≡ other → AreTypes text types → IsMethod other params result
+    → (params ≡ types.params) × (result ≡ types.result)
+same-types reading text other types params result e are spelled =
+    reading text params types.params result types.result (subst (λ (t : List ℕ). IsMethod t params result) (sym e) spelled) are.spelled
 
 -- ---- a class that is caught
 
@@ -130,7 +138,7 @@ length-names (h ∷ heads) = ap suc (length-names heads)
 class-in : (heads : List ClassHead) (name : List ℕ) (c : ℕ) → class_named heads name ≡ Some c → c < length heads
 class-in heads name c e = omega (arith, (position-Some (bytes_eq name) (names_of heads) c [] e).0, length-names heads)
 
-module _ (heads : List ClassHead) (rows : List TableRow) (class : ClassSpelled) (spelled : IsSpelled class) (c m : ℕ) (method : Method) (is : IsCoded heads rows class c m method) where
+module _ (heads : List ClassHead) (rows : Content) (class : ClassSpelled) (spelled : IsSpelled class) (c m : ℕ) (method : Method) (is : IsCoded heads rows class c m method) where
   -- the place of an instruction has an index
   start-index : (place : ℕ) → StartsAt is.are.code.instrs place → index_of is.are.code.instrs place < length method.code
   start-index place s =
@@ -181,17 +189,25 @@ module _ (heads : List ClassHead) (rows : List TableRow) (class : ClassSpelled) 
         let raw : Found is.are.code.instrs k = decoded-at heads rows class spelled c m method is k instr here in
         sound heads rows c class.pool raw.item instr.op _ (is.instrs.each k raw.item instr raw.at here).operation
 
-    all-return : (desc : List ℕ) → desc ≡ is.are.has_frame.head.desc → All (λ (instr : Instr). instr.reached ≡ true → ReturnsAs desc instr.op) method.code
-    all-return desc e k d lt on =
+    all-return : (result : Option JavaType) → is.are.has_frame.is.result ≡ result → All (λ (instr : Instr). instr.reached ≡ true → ReturnsAs result instr.op) method.code
+    all-return result e k d lt on =
         let instr : Instr = get_or method.code k d in
         let here : slice_get method.code k ≡ Some instr = slice_get-get_or method.code k d lt in
         let frame = is.are.has_frame.is in
-        returns-as desc frame.params frame.result (subst (λ (t : List ℕ). IsMethod t frame.params frame.result) (sym e) frame.descriptor) instr.op
-        (λ kind op. subst (λ (r : Option Kind). may_return r kind ≡ true) frame.returns (returns-kind heads rows class spelled c m method is returns k instr here on kind op))
+        subst (λ (r : Option JavaType). ReturnsAs r instr.op) e (returns-as frame.result instr.op
+        (λ kind op. subst (λ (r : Option Kind). may_return r kind ≡ true) frame.returns (returns-kind heads rows class spelled c m method is returns k instr here on kind op)))
+
+  module _ (about : RowsAreAbout) (categorized : IsCategorized rows) where
+    all-about : All (λ (instr : Instr). IsRowAbout rows.categories instr.op) method.code
+    all-about k d lt =
+        let instr : Instr = get_or method.code k d in
+        let here : slice_get method.code k ≡ Some instr = slice_get-get_or method.code k d lt in
+        let raw : Found is.are.code.instrs k = decoded-at heads rows class spelled c m method is k instr here in
+        about heads rows categorized c class.pool raw.item instr.op _ (is.instrs.each k raw.item instr raw.at here).operation
 
   -- it can begin
-  starts : (head : HeadMethod) → is.are.has_frame.head ≡ head → method.desc ≡ head.desc → method.flags ≡ head.flags → Starts method
-  starts head same desc flags =
+  starts : (head : HeadMethod) → is.are.has_frame.head ≡ head → is.are.has_frame.is.params ≡ method.types.params → method.flags ≡ head.flags → Starts method
+  starts head same params flags =
       let frame = is.are.has_frame.is in
       let reached : AreReached class.pool is.are.code is.are.frame is.are.at = all_reached class spelled m is.are.code is.are.frame is.are.has_frame is.are.at is.are.are in
       let flags-are : is.are.has_frame.head.flags ≡ method.flags = ap (λ (h : HeadMethod). h.flags) same ∙ sym flags in
@@ -199,21 +215,16 @@ module _ (heads : List ClassHead) (rows : List TableRow) (class : ClassSpelled) 
       subst (λ (n : ℕ). length (parameter_words (parameter_kinds n frame.params)) ≤ is.are.frame.max_locals) flags-are
       (subst (λ (ks : List Kind). length (parameter_words ks) ≤ is.are.frame.max_locals) frame.parameters reached.parameters) in
       record {
-        params = frame.params;
-        result = frame.result;
-        spelled = subst (λ (t : List ℕ). IsMethod t frame.params frame.result) (ap (λ (h : HeadMethod). h.desc) same ∙ sym desc) frame.descriptor;
-        room = omega (arith, fits, parameter-room method.flags frame.params, is.locals_are);
+        room = omega (arith, fits, parameter-room method.flags frame.params, is.locals_are, ap words_of_all params);
         first = first-reached heads rows class spelled c m method is;
       }
 
 -- ---- each method
 
-module _ (agree : OperationsAgree) (ends : OperationsEnd) (returns : ReturnsAgree) (sound : OperationsAreSound)
-    (heads : List ClassHead) (rows : List TableRow) (class : ClassSpelled) (spelled : IsSpelled class) (c m : ℕ) (method : Method) (is : IsMethodOf heads rows class c m method) where
-  spells : SpellsMethod method.desc
-  spells =
-      let desc = method-desc class spelled m is.head is.body is.declared in
-      (desc.params, desc.result, subst (λ (t : List ℕ). IsMethod t desc.params desc.result) (sym is.desc_is) desc.method)
+module _ (agree : OperationsAgree) (ends : OperationsEnd) (returns : ReturnsAgree) (sound : OperationsAreSound) (reading : OneReading)
+    (heads : List ClassHead) (rows : Content) (class : ClassSpelled) (spelled : IsSpelled class) (c m : ℕ) (method : Method) (is : IsMethodOf heads rows class c m method) where
+  spells : AreTypes method.desc method.types
+  spells = subst (λ (t : List ℕ). AreTypes t method.types) (sym is.desc_is) is.types_are
 
   abbrev no-abstract : Bool
   no-abstract = eqb (bit_and is.head.flags 0x0400) 0
@@ -242,6 +253,9 @@ module _ (agree : OperationsAgree) (ends : OperationsEnd) (returns : ReturnsAgre
   whole-by (Some code) e =
       let coded : IsCoded heads rows class c m method = coded-of heads rows class spelled c m method is code e in
       let head : coded.are.has_frame.head ≡ is.head = same-item class.head.methods m m coded.are.has_frame.head is.head refl coded.are.has_frame.head_at is.declared.head_at in
+      let types : (coded.are.has_frame.is.params ≡ method.types.params) × (coded.are.has_frame.is.result ≡ method.types.result) =
+      same-types reading is.head.desc coded.are.has_frame.head.desc method.types coded.are.has_frame.is.params coded.are.has_frame.is.result
+      (ap (λ (h : HeadMethod). h.desc) (sym head)) is.types_are coded.are.has_frame.is.descriptor in
       let first : IsReachedAt method 0 0 = first-reached heads rows class spelled c m method coded in
       let flag : is_abstract method.flags ≡ not no-abstract = ap is_abstract is.flags_are in
       record {
@@ -254,10 +268,24 @@ module _ (agree : OperationsAgree) (ends : OperationsEnd) (returns : ReturnsAgre
         next = next-stays heads rows class spelled c m method coded;
         sound = all-sound heads rows class spelled c m method coded sound returns;
         handlers = handlers-lie heads rows class spelled c m method coded;
-        starts = λ has-code. starts heads rows class spelled c m method coded is.head head is.desc_is is.flags_are;
+        starts = λ has-code. starts heads rows class spelled c m method coded is.head head types.0 is.flags_are;
         runs = λ i instr at on. runs heads rows class spelled c m method coded agree ends i instr at on;
-        returns = all-return heads rows class spelled c m method coded sound returns method.desc (is.desc_is ∙ ap (λ (h : HeadMethod). h.desc) (sym head));
+        returns = all-return heads rows class spelled c m method coded sound returns method.types.result types.1;
       }
 
   pub whole : IsWholeIn heads method
   whole = whole-by is.body.code refl
+
+-- ---- rows of calls
+
+about-by : RowsAreAbout → (heads : List ClassHead) (rows : Content) → IsCategorized rows → (class : ClassSpelled) → IsSpelled class → (c m : ℕ) (method : Method) (is : IsMethodOf heads rows class c m method)
+    → (o : Option Code) → is.body.code ≡ o → All (λ (instr : Instr). IsRowAbout rows.categories instr.op) method.code
+about-by about heads rows categorized class spelled c m method is None e =
+    let has : (method.code ≡ []) × (method.handlers ≡ []) = subst (λ (o : Option Code). HasContent heads rows class c m o method.code method.handlers) e is.content in
+    λ k d lt. absurd (omega (arith, lt, ap length has.0))
+about-by about heads rows categorized class spelled c m method is (Some code) e =
+    all-about heads rows class spelled c m method (coded-of heads rows class spelled c m method is code e) about categorized
+
+pub rows-about : RowsAreAbout → (heads : List ClassHead) (rows : Content) → IsCategorized rows → (class : ClassSpelled) → IsSpelled class → (c m : ℕ) (method : Method) → IsMethodOf heads rows class c m method
+    → All (λ (instr : Instr). IsRowAbout rows.categories instr.op) method.code
+rows-about about heads rows categorized class spelled c m method is = about-by about heads rows categorized class spelled c m method is is.body.code refl

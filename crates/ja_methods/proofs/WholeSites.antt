@@ -29,4 +29,5 @@ sites-name-calls heads list sites are k d lt =
       found = is.found;
       is_call = is.is_call;
       positions = subst (λ (ps : List ℕ). All (λ j. j < arguments is.call) ps) (sym is.is_site.positions_are) (below (arguments is.call) is.call.row.sinks);
+      category = is.category_is;
     }

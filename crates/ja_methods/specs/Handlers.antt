@@ -7,7 +7,7 @@ use Rattle.ja_ir.specs.declared.head.ClassHead.{ClassHead}
 use Rattle.ja_ir.specs.declared.method.Handler.{Handler}
 use Rattle.ja_ir.specs.declared.method.Catch.{Catch}
 use Rattle.ja_ir.specs.declared.method.Catch.TheVariants.{All as Everything, Program as InClass, Library as InLibrary}
-use Rattle.ja_supers.specs.Supertypes.{class_named}
+use Rattle.ja_supertypes.specs.Supertypes.{class_named}
 use Rattle.ja_methods.specs.Places.{index_of}
 
 -- an entry names a class to be caught, or 0 for all

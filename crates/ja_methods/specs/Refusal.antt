@@ -10,9 +10,9 @@ use Rattle.ja_kinds.specs.declared.fault.KindFault.{KindFault}
 use Rattle.ja_kinds.specs.declared.fault.KindFault.TheVariants as kind_faults
 use Rattle.ja_kinds.specs.declared.state.KindState.{KindState}
 use Rattle.ja_kinds.specs.Answer.{AreKindsOf, IsFaultOf}
-use Rattle.ja_ops.specs.declared.fault.OpFault.{OpFault}
-use Rattle.ja_ops.specs.declared.fault.OpFault.TheVariants as op_faults
-use Rattle.ja_ops.specs.Refused.{IsRefusedFor}
+use Rattle.ja_operations.specs.declared.fault.OpFault.{OpFault}
+use Rattle.ja_operations.specs.declared.fault.OpFault.TheVariants as op_faults
+use Rattle.ja_operations.specs.Refused.{IsRefusedFor}
 use Rattle.ja_methods.specs.declared.fault.MethodFault.{MethodFault}
 use Rattle.ja_methods.specs.declared.fault.MethodFault.TheVariants as faults
 use Rattle.ja_methods.specs.Method.{is_native, IsCodeOf}

@@ -3,7 +3,7 @@ ghost use Rattle.ja_methods.specs.Refusal.{kind_refusal, instr_refusal};
 
 use ja_base::Memory;
 use ja_kinds::KindFault;
-use ja_ops::OpFault;
+use ja_operations::OpFault;
 
 /// Why a method is refused.
 #[derive(Debug, Drop, Clone, Copy, PartialEq, Eq)]

@@ -2,7 +2,7 @@ ghost use Rattle.std.specs.Prelude.{◌≡◌, ◌⊎◌, ◌<◌, ◌≤◌, �
 ghost use Rattle.ja_kinds.specs.declared.state.KindState.{KindState};
 ghost use Rattle.std.specs.List.Sorted.{IsNonDecreasingBy};
 ghost use Rattle.ja_code.specs.declared.instr.RawInstr.{RawInstr};
-ghost use Rattle.ja_ops.specs.Profile.{IsProfiled};
+ghost use Rattle.ja_operations.specs.Profile.{IsProfiled};
 ghost use Rattle.ja_methods.specs.declared.fault.MethodFault.TheVariants.{Memory};
 ghost use Rattle.ja_methods.specs.Method.{IsInstrOf, AreInstrsOf, height_of};
 ghost use Rattle.ja_methods.specs.Refusal.{IsUnrefused, IsRefusalOf, IsFirstRefusal};
@@ -15,7 +15,7 @@ use ja_hier::Hier;
 use ja_ir::{Instr, Instrs};
 use ja_kinds::{KindState, Kinds};
 use ja_lib::Table;
-use ja_ops::{law_one_operation, operation_of};
+use ja_operations::{law_one_operation, operation_of};
 use ja_pool::Pool;
 use std::alloc::Global;
 
@@ -53,7 +53,7 @@ fn instr_of(
     requires there { k < length instrs.now }
     requires low { height_of (option_copied before) < 2 ^ 32 }
     ensures ok { (raw : RawInstr) → slice_get instrs.now k ≡ Some raw →
-        IfOk result (IsInstrOf scene.now.hier.now scene.now.table.now.rows scene.now.class.0 scene.now.pool.now instrs.now (option_copied before.entry) k raw) }
+        IfOk result (IsInstrOf scene.now.hier.now scene.now.table.now scene.now.class.0 scene.now.pool.now instrs.now (option_copied before.entry) k raw) }
     ensures clean { (raw : RawInstr) → slice_get instrs.now k ≡ Some raw → OnOk result (IsUnrefused scene.now.hier.now scene.now.class.0 scene.now.pool.now raw) }
     ensures refused { (raw : RawInstr) → slice_get instrs.now k ≡ Some raw →
         IfErr result (λ f. (f ≡ Memory) ⊎ IsRefusalOf scene.now.hier.now scene.now.class.0 scene.now.pool.now raw f) }
@@ -97,7 +97,7 @@ pub fn instrs_of(
     requires few { length instrs.now ≤ 65535 }
     requires sized { length kinds.now ≡ length instrs.now }
     requires low { All (λ (before : Option KindState). height_of before < 2 ^ 32) kinds.now }
-    ensures ok { IfOk result (AreInstrsOf scene.now.hier.now scene.now.table.now.rows scene.now.class.0 scene.now.pool.now instrs.now kinds.now) }
+    ensures ok { IfOk result (AreInstrsOf scene.now.hier.now scene.now.table.now scene.now.class.0 scene.now.pool.now instrs.now kinds.now) }
     ensures refused { IfErr result (λ f. (f ≡ Memory) ⊎ IsFirstRefusal scene.now.hier.now scene.now.class.0 scene.now.pool.now instrs.now f) }
 {
     let mut list = Seq::new(alloc);

@@ -1,4 +1,6 @@
 ghost use Rattle.std.specs.Prelude.{◌≡◌, ◌⊎◌, ◌<◌, ◌≤◌, ◌^◌, slice_get, length, Some, IfOk, IfErr, MatchResult};
+ghost use Rattle.ja_base.specs.Descriptor.{AreTypes};
+ghost use Rattle.ja_bytes.specs.DescriptorText.{IsMethodText};
 ghost use Rattle.ja_class.specs.declared.class.ClassMethod.{ClassMethod};
 ghost use Rattle.ja_ir.specs.declared.method.Method.{Method};
 ghost use Rattle.ja_methods.specs.declared.fault.MethodFault.{MethodFault};
@@ -12,14 +14,14 @@ use crate::handler::handlers_of;
 use crate::instr::{Scene, instrs_of};
 use crate::law::law_one_method;
 use crate::site::{MethodSites, sites_of};
-use ja_base::{ClassId, Seq};
+use ja_base::{ClassId, Desc, Memory, Name, Seq};
 use ja_class::Class;
 use ja_code::Code;
 use ja_hier::Hier;
 use ja_ir::{Handlers, HeadMethod, Instrs, Method};
 use ja_kinds::kinds;
 use ja_lib::Table;
-use ja_ops::law_each_is_profiled;
+use ja_operations::{law_each_is_profiled, types_of};
 use std::alloc::Global;
 
 /// ACC_NATIVE (JVM specification table 4.6-A).
@@ -59,7 +61,7 @@ fn coded(
     requires class { c.0 < length hier.now }
     requires classes { length hier.now ≤ 2 ^ 26 }
     requires code { IsCodeOf class.now m code.now }
-    ensures ok { IfOk result (λ x. HasInstrs hier.now table.now.rows class.now c.0 m code.now x.code x.handlers) }
+    ensures ok { IfOk result (λ x. HasInstrs hier.now table.now class.now c.0 m code.now x.code x.handlers) }
     ensures refused { IfErr result (λ f. (f ≡ faults.Memory) ⊎ IsCodeRefused hier.now class.now c.0 m f) }
 {
     law_each_is_profiled();
@@ -95,7 +97,7 @@ fn content_of(
     requires classes { length hier.now ≤ 2 ^ 26 }
     requires method { m < length class.now.methods }
     ensures ok { (body : ClassMethod) → slice_get class.now.methods m ≡ Some body →
-        IfOk result (λ x. HasContent hier.now table.now.rows class.now c.0 m body.code x.code x.handlers) }
+        IfOk result (λ x. HasContent hier.now table.now class.now c.0 m body.code x.code x.handlers) }
     ensures refused { IfErr result (λ f. (f ≡ faults.Memory) ⊎ IsCodeRefused hier.now class.now c.0 m f) }
 {
     let body = class.methods.at(u64::from(m));
@@ -106,6 +108,15 @@ fn content_of(
         }),
         Some(code) => coded(alloc, hier, table, class, c, m, code),
     }
+}
+
+/// The types that a method's descriptor spells.
+fn desc_types(alloc: Global, desc: &Name) -> Result<Desc, Memory>
+    requires { IsMethodText desc.now }
+    ensures { IfOk result (AreTypes desc.now) }
+{
+    let types = types_of(alloc, desc.bytes())?;
+    Ok(types)
 }
 
 /// The method or its first refusal, unless memory runs out.
@@ -120,7 +131,7 @@ fn method_or_refusal(
     requires class { c.0 < length hier.now }
     requires classes { length hier.now ≤ 2 ^ 26 }
     requires method { m < length class.now.head.methods }
-    ensures ok { IfOk result (λ l. IsMethodOf hier.now table.now.rows class.now c.0 m l.method) }
+    ensures ok { IfOk result (λ l. IsMethodOf hier.now table.now class.now c.0 m l.method) }
     ensures sites { IfOk result (λ l. AreSitesOf hier.now l.method.code l.sites) }
     ensures refused { IfErr result (λ f. (f ≡ faults.Memory) ⊎ IsRefused hier.now class.now c.0 m f) }
 {
@@ -132,12 +143,14 @@ fn method_or_refusal(
     let sites = sites_of(alloc, hier, content.code.as_slice())?;
     let name = head.name.copy(alloc)?;
     let desc = head.desc.copy(alloc)?;
+    let types = desc_types(alloc, &head.desc)?;
     let body = class.methods.at(u64::from(m));
     Ok(Lowered {
         method: Method {
             class: c,
             name,
             desc,
+            types,
             flags: head.flags,
             locals: body.max_locals,
             stack: body.max_stack,
@@ -166,9 +179,9 @@ pub fn lower_method(
     requires classes { length hier.now ≤ 2 ^ 26 }
     requires method { m < length class.now.head.methods }
     // What is answered is the method.
-    ensures ok { IfOk result (λ l. IsMethodOf hier.now table.now.rows class.now c.0 m l.method) }
+    ensures ok { IfOk result (λ l. IsMethodOf hier.now table.now class.now c.0 m l.method) }
     // The method is answered where there is one, unless memory runs out.
-    ensures only { (method : Method) → IsMethodOf hier.now table.now.rows class.now c.0 m method →
+    ensures only { (method : Method) → IsMethodOf hier.now table.now class.now c.0 m method →
         MatchResult result (λ l. l.method ≡ method) (λ f. f ≡ faults.Memory) }
     // Its sink calls are all of them.
     ensures sites { IfOk result (λ l. AreSitesOf hier.now l.method.code l.sites) }

@@ -4,7 +4,7 @@ ghost use Rattle.ja_methods.specs.Sites.{AreSitesOf, Joins};
 use ja_base::{Memory, Name, Numbers, Seq};
 use ja_hier::Hier;
 use ja_ir::{Instr, Op};
-use ja_ops::site_of;
+use ja_operations::site_of;
 use std::alloc::Global;
 
 /// A sink call of a method.
@@ -16,6 +16,8 @@ pub struct MethodSite {
     pub positions: Numbers,
     /// The class, `.`, the name and the descriptor that the call names.
     pub target: Name,
+    /// The category of marks that the sink is about.
+    pub category: u32,
 }
 
 /// A list of sink calls of a method.
@@ -38,6 +40,7 @@ fn push_site(
                 index,
                 positions: found.positions,
                 target: found.target,
+                category: call.row.category,
             }),
         },
         _ => Ok(()),

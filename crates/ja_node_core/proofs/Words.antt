@@ -3,7 +3,7 @@ use Rattle.std.proofs.Common.{◌≡◌, ◌≢◌, ◌⊎◌, ℕ, ◌+◌, ◌
 use Rattle.std.proofs.Math.Nat.{suc-mod, mod_self, mod-mod, mod-eq_of_lt}
 use Rattle.std.proofs.lemmas.Nat.{and_mask, or_shifted, mod_below}
 use native.Mathlib.Decide.{ℕ_discrete}
-use Rattle.ja_node_core.specs.Word.{word_of, var_of, low_of, high_of, places, place}
+use Rattle.ja_node_core.specs.Word.{word_of, var_of, low_of, high_of, places, place, factor, hash}
 
 pub word_positive : (v low high : ℕ) → 0 < word_of v low high
 unfolding word_of
@@ -51,17 +51,22 @@ next_mod x m pos (yes e) = inl (e, suc-mod' ∙ ap (λ k. k % m) e ∙ mod_self 
     suc-mod' = ap (λ k. k % m) (add-one x) ∙ suc-mod x m ∙ ap (λ k. k % m) (sym (add-one (x % m)))
 next_mod x m pos (no ne) = inr (ne, ap (λ k. k % m) (add-one x) ∙ suc-mod x m ∙ ap (λ k. k % m) (sym (add-one (x % m))) ∙ mod-eq_of_lt (let lt = mod_below x m pos in omega arith))
 
-pub first_is : (n w : ℕ) → 2 + w % 4294967291 % (n - 2) ≡ place n w 0
-unfolding place
-first_is n w = ap (λ k. 2 + k) (sym (mod-mod (w % 4294967291) (n - 2)) ∙ ap (λ k. k % (n - 2)) (sym (add-zero (w % 4294967291 % (n - 2)))))
+-- the hash by a factor that was chosen before
+pub hash_is : (n w k : ℕ) → k ≡ factor n → 2 < n → (w % 4294967291 * k % 4294967291 % (n - 2) ≡ hash n w) × (w % 4294967291 * k % 4294967291 % (n - 2) < n - 2)
+unfolding hash
+hash_is n w k e big = (ap (λ f. w % 4294967291 * f % 4294967291 % (n - 2)) e, mod_below (w % 4294967291 * k % 4294967291) (n - 2) (omega arith))
+
+pub first_is : (n w : ℕ) → 2 + hash n w ≡ place n w 0
+unfolding place hash
+first_is n w = ap (λ k. 2 + k) (sym (mod-mod (w % 4294967291 * factor n % 4294967291) (n - 2)) ∙ ap (λ k. k % (n - 2)) (sym (add-zero (w % 4294967291 * factor n % 4294967291 % (n - 2)))))
 
 -- the place after a place
 pub next_is : (n w i p : ℕ) → 2 < n → p ≡ place n w i → ((p + 1 ≡ n) × (place n w (i + 1) ≡ 2)) ⊎ ((p + 1 ≢ n) × (place n w (i + 1) ≡ p + 1))
 unfolding place
-next_is n w i p big e = step (next_mod (w % 4294967291 % (n - 2) + i) (n - 2) (omega arith) (ℕ_discrete _ _))
+next_is n w i p big e = step (next_mod (hash n w + i) (n - 2) (omega arith) (ℕ_discrete _ _))
   where
     h : ℕ
-    h = w % 4294967291 % (n - 2)
+    h = hash n w
 
     on : place n w (i + 1) ≡ 2 + (h + i + 1) % (n - 2)
     on = ap (λ k. 2 + k % (n - 2)) (sym (add_assoc h i 1))

@@ -1,5 +1,5 @@
 -- The word of a node, and the places of a table where it may stand.
-use Rattle.std.specs.Prelude.{ℕ, ◌+◌, ◌-◌, ◌*◌, ◌/◌, ◌%◌, ◌^◌, min}
+use Rattle.std.specs.Prelude.{ℕ, ◌+◌, ◌-◌, ◌*◌, ◌/◌, ◌%◌, ◌^◌, min, nat_le, if◌then◌else◌}
 
 -- the word of a variable and two children: 12 bits for the variable plus 1, 26 for the child where it is false, 26 for the child where it is true
 unfoldable pub word_of : ℕ → ℕ → ℕ → ℕ
@@ -19,6 +19,14 @@ high_of w = w % 2 ^ 26
 unfoldable pub places : ℕ → ℕ
 places n = min (n - 2) 4096
 
+-- what a word is multiplied by in the hash, in a table of n words: nothing up to 65,536 words, and in a larger table a prime near 2^32 divided by the golden ratio, which spreads words that differ in a few bits alone
+abbrev pub factor : ℕ → ℕ
+factor n = (if nat_le n 65536 then 1 else 2654435761)
+
+-- the hash of a word in a table of n words, below n - 2: the remainders are by the greatest prime below 2^32
+unfoldable pub hash : ℕ → ℕ → ℕ
+hash n w = w % 4294967291 * factor n % 4294967291 % (n - 2)
+
 -- the i-th place of the word's path
 unfoldable pub place : ℕ → ℕ → ℕ → ℕ
-place n w i = 2 + (w % 4294967291 % (n - 2) + i) % (n - 2)
+place n w i = 2 + (hash n w + i) % (n - 2)

@@ -3,7 +3,7 @@ use Rattle.std.proofs.Common.{◌≡◌, ℕ, ◌+◌, ◌-◌, ◌%◌, ◌<◌
 use native.Mathlib.Decide.{dec_le}
 use Rattle.atomic_table.proofs.Lists.{one_turn}
 use Rattle.ja_node_core.specs.Tree.{Tree, HasFunctions}
-use Rattle.ja_node_core.specs.Word.{places, place}
+use Rattle.ja_node_core.specs.Word.{places, place, hash}
 use Rattle.ja_node_core.proofs.Known.{stands_part}
 use Rattle.ja_node_core.proofs.Trees.{functions}
 use Rattle.ja_node_table.specs.declared.view.Plan.{Plan}
@@ -15,7 +15,7 @@ unfolding place places
 places_apart n w i j lt less e = step (dec_le i j)
   where
     h : ℕ
-    h = w % 4294967291 % (n - 2)
+    h = hash n w
 
     same : (h + i) % (n - 2) ≡ (h + j) % (n - 2)
     same = omega (arith, e)

@@ -12,6 +12,3 @@ pub use full::Full;
 pub use ja_node_core::{Node, Parts};
 pub use seat::NodeSeat;
 pub use table::NodeTable;
-
-#[cfg(test)]
-mod tests;

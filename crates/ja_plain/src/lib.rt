@@ -7,6 +7,3 @@ mod truths;
 
 pub use first::solve_first;
 pub use law::{law_events_are_warned, law_examples, law_facts_cover, law_taint_tests};
-
-#[cfg(test)]
-mod tests;

@@ -18,6 +18,3 @@ pub use fault::PoolFault;
 pub use law::law_one_reading;
 pub use pool::Pool;
 pub use read::read_pool;
-
-#[cfg(test)]
-mod tests;

@@ -9,6 +9,3 @@ mod tokens;
 pub use law::{law_pairs, law_sets};
 pub use pairs::PairSet;
 pub use tokens::TokenSet;
-
-#[cfg(test)]
-mod tests;

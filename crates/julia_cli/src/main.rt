@@ -1,18 +1,9 @@
 //! The analyser's command line.
 #![tactic(auto)]
 
-mod answer;
-mod report;
-mod run;
-#[cfg(test)]
-mod tests;
-mod text;
-mod words;
-mod writing;
-
-use crate::run::run;
 use ja_base::{Memory, Name};
 use ja_io::{DirFolder, NoGate, StdOut};
+use ja_run::run;
 use std::alloc::Global;
 use std::env::{self, Env};
 use std::process::ExitCode;

@@ -1,11 +1,11 @@
 //! Each class as a folder of its own.
 use crate::outcome::{Outcome, outcome_of};
-use class_folder::ClassFolder;
 use ja_base::{File, Memory};
 use ja_lib::Table;
 use std::alloc::Global;
 use std::slice;
 use std::thread::Threads;
+use tool_parts::ClassFolder;
 
 /// One more than the last number of a refusal.
 pub const NUMBERS: usize = 74;

@@ -26,7 +26,7 @@ use std::thread::Threads;
 use std::time::Instant;
 use task::{Task, task_of};
 use together::{Whole, instructions, lower_together};
-use tool_files::{files_in, folders_in, words_of};
+use tool_parts::{files_in, folders_in, words_of};
 
 /// The error for want of memory.
 fn out_of_memory(_memory: Memory) -> io::Error {

@@ -1,12 +1,11 @@
 //! What comes of files.
-use class_folder::ClassFolder;
 use ja_base::{File, Memory, Name, Refusal};
 use ja_ir::Program;
 use ja_lib::Table;
 use ja_lower::LowerFault;
-use program_text::{refusal_text, text_of};
 use std::alloc::Global;
 use std::thread::Threads;
+use tool_parts::{ClassFolder, refusal_text, text_of};
 
 /// What comes of files as one folder.
 #[derive(Drop)]

@@ -1,12 +1,12 @@
 //! Classes as one folder.
 use crate::outcome::file_of;
-use class_folder::ClassFolder;
 use ja_base::{Memory, Name};
 use ja_ir::Program;
 use ja_lib::Table;
 use ja_lower::LowerFault;
 use std::alloc::Global;
 use std::thread::Threads;
+use tool_parts::ClassFolder;
 
 /// A folder, its program, and how many classes were left out.
 #[derive(Drop)]

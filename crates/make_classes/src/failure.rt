@@ -1,6 +1,6 @@
 //! Why classes are not written.
-use listing_files::ListingFault;
 use std::io::{self, ErrorKind};
+use tool_parts::ListingFault;
 
 /// Why the classes of a listing are not written.
 #[derive(Drop)]

@@ -13,11 +13,10 @@ mod write;
 
 use failure::Failure;
 use ja_base::Names;
-use listing_files::class_files;
 use std::process::ExitCode;
 use std::rt::Runtime;
 use std::{fs, io};
-use tool_files::words_of;
+use tool_parts::{class_files, words_of};
 use write::{check_names, text_of, write_files};
 
 /// The two words, if there are two.

@@ -1,7 +1,7 @@
 use Rattle.std.proofs.Common.{◌≡◌, ◌+◌, ◌-◌, suc, arith}
 use Rattle.std.proofs.lemmas.Result.{err_from_is_err_and}
-use Rattle.ja_attr.specs.Part.{times}
-use Rattle.ja_attr.proofs.Completes.{times_step}
+use Rattle.ja_attributes.specs.Part.{times}
+use Rattle.ja_attributes.proofs.Completes.{times_step}
 use Rattle.ja_class.specs.ClassFault.{field}
 use Rattle.ja_class.proofs.Counted.{counted_stop, counted_done}
 use Rattle.ja_class.proofs.field.fields.Goals as goal

@@ -1,6 +1,6 @@
 use Rattle.std.proofs.Common.{List, ◌++◌, ◌-◌}
-use Rattle.ja_attr.specs.Part.{times}
-use Rattle.ja_attr.proofs.Completes.{Completes}
+use Rattle.ja_attributes.specs.Part.{times}
+use Rattle.ja_attributes.proofs.Completes.{Completes}
 use Rattle.ja_ir.specs.declared.head.HeadField.{HeadField}
 use Rattle.ja_class.specs.ClassFault.{field}
 use Rattle.ja_class.proofs.field.fields.Given as goal

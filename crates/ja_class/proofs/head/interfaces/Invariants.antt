@@ -1,6 +1,6 @@
 use Rattle.std.proofs.Common.{List, ℕ, ◌++◌, ◌-◌}
-use Rattle.ja_attr.specs.Part.{times}
-use Rattle.ja_attr.proofs.Completes.{Completes}
+use Rattle.ja_attributes.specs.Part.{times}
+use Rattle.ja_attributes.proofs.Completes.{Completes}
 use Rattle.ja_class.specs.ClassFault.{interface}
 use Rattle.ja_class.proofs.head.interfaces.Given as goal
 

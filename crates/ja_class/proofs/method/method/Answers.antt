@@ -1,7 +1,7 @@
 use Rattle.std.proofs.Common.{◌≡◌, ◌⊎◌, inl, inr, Bool, ℕ, refl, ap, subst}
 use Rattle.std.proofs.lemmas.Result.{err_from_is_err_and}
-use Rattle.ja_attr.specs.declared.fault.AttributeFault.TheVariants as attribute
-use Rattle.ja_attr.specs.Faults.{IsMethodFault}
+use Rattle.ja_attributes.specs.declared.fault.AttributeFault.TheVariants as attribute
+use Rattle.ja_attributes.specs.Faults.{IsMethodFault}
 use Rattle.ja_class.specs.Faults.{method_fault}
 use Rattle.ja_class.specs.Meaning.{needs_code}
 use Rattle.ja_class.proofs.Counted.{or_later}

@@ -1,8 +1,8 @@
 use Rattle.std.proofs.Common.{◌≡◌, ℕ, ◌+◌, ◌-◌, suc, ◌⊎◌, inl, inr, [], ◌∷◌, ◌++◌, length, refl, sym, subst, ◌∙◌, arith}
 use Rattle.std.proofs.lemmas.Result.{err_from_is_err_and}
 use Rattle.std.proofs.lemmas.List.{length-append}
-use Rattle.ja_attr.specs.Part.{fold}
-use Rattle.ja_attr.proofs.Completes.{fold_step, fold_stop}
+use Rattle.ja_attributes.specs.Part.{fold}
+use Rattle.ja_attributes.proofs.Completes.{fold_step, fold_stop}
 use Rattle.ja_class.specs.declared.fault.ClassFault.TheVariants.{Memory}
 use Rattle.ja_class.specs.declared.method.MethodLists.{MethodLists}
 use Rattle.ja_class.specs.ClassFault.{method, next_method}

@@ -1,6 +1,6 @@
 use Rattle.std.proofs.Common.{◌≡◌, [], ◌-◌, length}
-use Rattle.ja_attr.specs.Part.{fold}
-use Rattle.ja_attr.proofs.Completes.{Completes}
+use Rattle.ja_attributes.specs.Part.{fold}
+use Rattle.ja_attributes.proofs.Completes.{Completes}
 use Rattle.ja_class.specs.declared.method.MethodLists.{MethodLists}
 use Rattle.ja_class.specs.ClassFault.{next_method}
 use Rattle.ja_class.proofs.method.methods.Given as goal

@@ -1,6 +1,6 @@
 use Rattle.std.proofs.Common.{subst, sym}
 use Rattle.ja_facts.specs.Held.{Cell, FieldHolds}
-use Rattle.ja_examples.specs.Solutions.{Helds}
+use Rattle.ja_facts.specs.Analyses.{Helds}
 use Rattle.ja_examples.specs.Building.{building}
 use Rattle.ja_examples.proofs.Built as facts
 use Rattle.ja_examples.proofs.Holding.{only_bags}

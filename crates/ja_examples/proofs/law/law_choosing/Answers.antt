@@ -1,6 +1,6 @@
 use Rattle.std.proofs.Common.{ℕ, refl, subst, sym}
 use Rattle.ja_facts.specs.ClassSets.{CallsMethod}
-use Rattle.ja_examples.specs.Solutions.{Classes}
+use Rattle.ja_facts.specs.Analyses.{Classes}
 use Rattle.ja_examples.specs.Choosing.{choosing}
 use Rattle.ja_examples.proofs.Chosen.{either_calls_q, either_calls_r, single_calls_r, warned}
 use Rattle.ja_examples.proofs.Single.{only_r, not_warned}

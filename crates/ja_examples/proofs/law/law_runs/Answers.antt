@@ -11,5 +11,11 @@ returns c = record {
   parted_field = refl;
   chosen_subclass = refl;
   single_subclass = refl;
+  initialised_class = refl;
+  class_not_initialised = refl;
+  class_not_named = refl;
+  failed_initialiser = refl;
+  nothing_after_it = refl;
+  labelled_text = refl;
   array_element = refl;
 }

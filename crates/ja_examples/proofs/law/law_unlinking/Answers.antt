@@ -1,6 +1,6 @@
 use Rattle.std.proofs.Common.{subst, sym}
 use Rattle.ja_facts.specs.Sharing.{Effect, Root}
-use Rattle.ja_examples.specs.Solutions.{Heaps}
+use Rattle.ja_facts.specs.Analyses.{Heaps}
 use Rattle.ja_examples.specs.Unlinking.{unlinking}
 use Rattle.ja_examples.proofs.Unlinked.{changes_argument, affected}
 use Rattle.ja_examples.proofs.Apart.{only_argument, not_affected}

@@ -1,3 +1,4 @@
+use Rattle.std.proofs.Common.{refl}
 use Rattle.ja_facts.proofs.ExampleFacts as facts
 use Rattle.ja_facts.proofs.law.law_example.Goals as goal
 
@@ -9,6 +10,7 @@ returns c = record {
   read = facts.read;
   threw = facts.threw;
   returned = facts.returned;
-  warned = facts.warned;
+  warned = ((λ t. facts.warned, λ w. refl), tt);
   line = facts.line;
+  named = facts.named;
 }

@@ -1,10 +1,7 @@
 use Rattle.std.proofs.Common.{◌≡◌, ◌∙◌, Some, ap, sym}
 use Rattle.ja_ir.specs.declared.method.Instr.{Instr}
 use Rattle.ja_ir.specs.declared.op.Op.TheVariants.{Load}
-use Rattle.ja_facts.specs.Least.{Least}
-use Rattle.ja_facts.specs.ClassSets.{Rule as ClassRule}
-use Rattle.ja_facts.specs.Sharing.{Rule as HeapRule}
-use Rattle.ja_facts.specs.Reaching.{Rule as ReachRule}
+use Rattle.ja_facts.specs.Analyses.{analyses_of}
 use Rattle.ja_facts.specs.Slots.{OnStack}
 use Rattle.ja_facts.proofs.Loads.{load-turns}
 use Rattle.ja_facts.proofs.law.law_load_moves.Goals as goal
@@ -15,5 +12,4 @@ returns c p m i l height kind b after at ends =
     let same : at.instr ≡ ends.instr = cc found in
     let is_op : ends.instr.op ≡ Load kind l = sym (ap (λ (x : Instr). x.op) same) ∙ at.is_op in
     let is_height : ends.instr.height ≡ height = sym (ap (λ (x : Instr). x.height) same) ∙ at.is_height in
-    load-turns (Least (HeapRule p (Least (ClassRule p)))) (Least (ReachRule p (Least (ClassRule p)) (Least (HeapRule p (Least (ClassRule p)))))) m i b
-    kind l is_op (ap OnStack (sym is_height)) (ends.slots (OnStack height))
+    load-turns (analyses_of p) m i b kind l is_op (ap OnStack (sym is_height)) (ends.slots (OnStack height))

@@ -2,8 +2,8 @@ use Rattle.std.proofs.Common.{◌≡◌, ℕ, ◌<◌, List, length, get_or, tru
 use Rattle.std.specs.Prelude.{Contains}
 use Rattle.std.proofs.lemmas.Option.{slice_get_within}
 use Rattle.std.proofs.lemmas.List.Elements.{Contains-get_or}
-use Rattle.ja_supers.proofs.Up.{superclass-supertype}
-use Rattle.ja_index.specs.Numbers.{numbers_at}
+use Rattle.ja_supertypes.proofs.Up.{superclass-supertype}
+use Rattle.ja_base.specs.Index.{numbers_at}
 use Rattle.ja_hier.specs.Index.{HidesAt}
 use Rattle.ja_hier.proofs.Crossings.{crosses-from, crosses-noted}
 use Rattle.ja_hier.proofs.Indexed.{at-item}

@@ -1,8 +1,8 @@
 use Rattle.std.proofs.Common.{inr}
 use Rattle.std.specs.Prelude.{Some}
-use Rattle.ja_supers.specs.Supertypes.{direct}
-use Rattle.ja_supers.proofs.Falls.{direct-target}
-use Rattle.ja_index.specs.Numbers.{numbers_at}
+use Rattle.ja_supertypes.specs.Supertypes.{direct}
+use Rattle.ja_supertypes.proofs.Falls.{direct-target}
+use Rattle.ja_base.specs.Index.{numbers_at}
 use Rattle.ja_hier.proofs.Straight.{at-or-above-through, covers-above, declared-past, end-lacks, goes-along, straight-above, straight-falls}
 use Rattle.ja_hier.proofs.fields.declared_field.Goals as goal
 

@@ -1,9 +1,9 @@
 use Rattle.std.proofs.Common.{ℕ, ◌<◌, ◌∷◌, [], length}
 use Rattle.std.specs.Prelude.{Some}
-use Rattle.ja_index.specs.Numbers.{numbers_at}
+use Rattle.ja_base.specs.Index.{numbers_at}
 use Rattle.ja_hier.specs.Index.{Covers}
 use Rattle.ja_hier.specs.LookUps.{IsDeclaredAbove, FieldSearch}
-use Rattle.ja_supers.proofs.Ranks.{rank_of}
+use Rattle.ja_supertypes.proofs.Ranks.{rank_of}
 use Rattle.ja_hier.proofs.fields.declared_field.Given as goal
 
 abbrev pub invariant-loop-field : goal.invariant-loop-field

@@ -4,8 +4,8 @@ use Rattle.std.proofs.lemmas.List.Elements.{Contains-get_or}
 use Rattle.ja_hier.specs.Index.{Meets, IsBelow}
 use Rattle.ja_hier.proofs.Lowest.{IsLowestSoFar, if-some, lowest-taken, lowest-passed, lowest-found, lowest-missing}
 use Rattle.ja_hier.proofs.Straight.{above-inside, straight-above, not-lower, meets-listed}
-use Rattle.ja_supers.specs.Supertypes.{IsSupertype, through}
-use Rattle.ja_supers.proofs.Falls.{supertype-target}
+use Rattle.ja_supertypes.specs.Supertypes.{IsSupertype, through}
+use Rattle.ja_supertypes.proofs.Falls.{supertype-target}
 use Rattle.ja_hier.proofs.fields.lowest_above.Goals as goal
 use Rattle.ja_hier.proofs.fields.lowest_above.Goals.{then-has_above+then-meets, else-has_above, else-has_above-via-then-has_above+else-meets, else-has_above-via-else-has_above}
 

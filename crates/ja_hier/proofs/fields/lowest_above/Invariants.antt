@@ -1,4 +1,4 @@
-use Rattle.ja_supers.specs.Supertypes.{IsSupertype}
+use Rattle.ja_supertypes.specs.Supertypes.{IsSupertype}
 use Rattle.ja_hier.specs.Index.{Meets}
 use Rattle.ja_hier.proofs.Lowest.{IsLowestSoFar}
 use Rattle.ja_hier.proofs.fields.lowest_above.Given as goal

@@ -1,8 +1,8 @@
 use Rattle.std.proofs.Common.{◌≡◌, ℕ, ◌<◌, length, get_or, true, ◌∙◌, arith, below_more}
-use Rattle.ja_supers.specs.Supertypes.{supertypes_of}
-use Rattle.ja_index.specs.Numbers.{numbers_at}
+use Rattle.ja_supertypes.specs.Supertypes.{supertypes_of}
+use Rattle.ja_base.specs.Index.{numbers_at}
 use Rattle.ja_hier.specs.LookUps.{IsDeclaredAbove}
-use Rattle.ja_supers.proofs.Ranks.{rank_of, rank-falls}
+use Rattle.ja_supertypes.proofs.Ranks.{rank_of, rank-falls}
 use Rattle.ja_hier.proofs.FieldWays.{leads-on, no-next, next-inside}
 use Rattle.ja_hier.proofs.Straight.{covers-next}
 use Rattle.ja_hier.proofs.fields.next_above.Goals as goal

@@ -1,5 +1,5 @@
-use Rattle.ja_supers.proofs.Falls.{direct-target}
-use Rattle.ja_supers.proofs.Ranks.{rank-falls}
+use Rattle.ja_supertypes.proofs.Falls.{direct-target}
+use Rattle.ja_supertypes.proofs.Ranks.{rank-falls}
 use Rattle.ja_hier.specs.Index.{stays}
 use Rattle.ja_hier.proofs.Straight.{straight-more, only-direct}
 use Rattle.ja_hier.proofs.forks.fork_of.Goals as goal

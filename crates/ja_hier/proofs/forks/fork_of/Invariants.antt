@@ -1,5 +1,5 @@
 use Rattle.std.proofs.Common.{◌<◌, length}
-use Rattle.ja_supers.proofs.Ranks.{rank_of}
+use Rattle.ja_supertypes.proofs.Ranks.{rank_of}
 use Rattle.ja_hier.specs.Index.{IsStraight}
 use Rattle.ja_hier.proofs.forks.fork_of.Given as goal
 

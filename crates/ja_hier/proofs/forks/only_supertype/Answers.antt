@@ -1,5 +1,5 @@
 use Rattle.std.proofs.Common.{◌≡◌, ◌<◌, length, arith, ◌∙◌}
-use Rattle.ja_supers.specs.Supertypes.{supertypes_of}
+use Rattle.ja_supertypes.specs.Supertypes.{supertypes_of}
 use Rattle.ja_hier.proofs.FieldWays.{next-inside}
 use Rattle.ja_hier.proofs.forks.only_supertype.Goals as goal
 

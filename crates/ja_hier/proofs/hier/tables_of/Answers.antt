@@ -1,6 +1,6 @@
 use Rattle.std.proofs.Common.{◌≡◌, List, sym, subst}
 use Rattle.ja_ir.specs.declared.head.ClassHead.{ClassHead}
-use Rattle.ja_supers.specs.Faults.{AreClasses}
+use Rattle.ja_supertypes.specs.Faults.{AreClasses}
 use Rattle.ja_hier.specs.declared.starts.Member.TheVariants.{Field, Method}
 use Rattle.ja_hier.specs.Index.{ArePlaces, AreStarts, IsIndexOf}
 use Rattle.ja_hier.specs.Members.{count_of, IsNumbered}

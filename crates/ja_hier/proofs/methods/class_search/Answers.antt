@@ -3,7 +3,7 @@ use Rattle.std.specs.Prelude.{Some, None}
 use Rattle.ja_ir.specs.declared.class.MethodAt.{MethodAt}
 use Rattle.ja_hier.specs.LookUps.{method_in, ClassSearch, declared}
 use Rattle.ja_hier.proofs.MethodWays.{found-above, nothing-above}
-use Rattle.ja_supers.proofs.Up.{proper-inside}
+use Rattle.ja_supertypes.proofs.Up.{proper-inside}
 use Rattle.ja_hier.proofs.methods.class_search.Goals as goal
 
 pub returns-in-Some : goal.returns-in-Some

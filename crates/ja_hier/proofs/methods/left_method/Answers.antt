@@ -1,5 +1,5 @@
 use Rattle.ja_hier.proofs.MethodWays.{left-above}
-use Rattle.ja_supers.proofs.Places.{superinterface-target}
+use Rattle.ja_supertypes.proofs.Places.{superinterface-target}
 use Rattle.ja_hier.proofs.methods.left_method.Goals as goal
 
 pub method_in-requires-clause-inside : goal.method_in-requires-clause-inside

@@ -4,8 +4,8 @@ use Rattle.std.proofs.lemmas.List.Elements.{Contains-get_or}
 use Rattle.ja_hier.specs.Index.{Inherits, IsBelow}
 use Rattle.ja_hier.proofs.Lowest.{IsLowestSoFar, if-some, lowest-taken, lowest-passed, lowest-found, lowest-missing}
 use Rattle.ja_hier.proofs.MethodWays.{superclass-through, not-nearer, inherits-listed}
-use Rattle.ja_supers.specs.Supertypes.{IsSuperclass}
-use Rattle.ja_supers.proofs.Up.{proper-inside}
+use Rattle.ja_supertypes.specs.Supertypes.{IsSuperclass}
+use Rattle.ja_supertypes.proofs.Up.{proper-inside}
 use Rattle.ja_hier.proofs.methods.nearest.Goals as goal
 use Rattle.ja_hier.proofs.methods.nearest.Goals.{then-is_below+then-inherits, else-is_below, else-is_below-via-then-is_below+else-inherits, else-is_below-via-else-is_below}
 

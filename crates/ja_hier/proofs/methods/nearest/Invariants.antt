@@ -1,4 +1,4 @@
-use Rattle.ja_supers.specs.Supertypes.{IsSuperclass}
+use Rattle.ja_supertypes.specs.Supertypes.{IsSuperclass}
 use Rattle.ja_hier.specs.Index.{Inherits}
 use Rattle.ja_hier.proofs.Lowest.{IsLowestSoFar}
 use Rattle.ja_hier.proofs.methods.nearest.Given as goal

@@ -3,7 +3,7 @@ use Rattle.std.specs.Prelude.{IfOk, Result, Ok, Err}
 use Rattle.ja_base.specs.declared.memory.Memory.{Memory}
 use Rattle.ja_ir.specs.declared.block.Block.{Block}
 use Rattle.ja_ir.specs.Blocks.{AreBlocks}
-use Rattle.ja_ir.specs.Leaders.{blocks_after}
+use Rattle.ja_ir.specs.InnerLeaders.{blocks_after}
 use Rattle.ja_ir.proofs.Cuts.{marked, are-blocks}
 use Rattle.ja_ir.proofs.block.blocks_of.Goals as goal
 

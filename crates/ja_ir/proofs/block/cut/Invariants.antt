@@ -1,5 +1,5 @@
 use Rattle.std.proofs.Common.{◌≡◌, ◌<◌, ◌++◌, drop}
-use Rattle.ja_ir.specs.Leaders.{blocks_from}
+use Rattle.ja_ir.specs.InnerLeaders.{blocks_from}
 use Rattle.ja_ir.proofs.block.cut.Given as goal
 
 -- the blocks so far and those that the flags from here on give are all blocks

@@ -1,5 +1,5 @@
 use Rattle.std.proofs.Common.{◌≡◌, drop}
-use Rattle.ja_ir.specs.Leaders.{with_code}
+use Rattle.ja_ir.specs.InnerLeaders.{with_code}
 use Rattle.ja_ir.proofs.block.mark_code.Given as goal
 
 -- what is left to mark makes of the flags what all instructions make of those at the start

@@ -1,5 +1,5 @@
 use Rattle.std.proofs.Common.{◌≡◌, drop}
-use Rattle.ja_ir.specs.Leaders.{with_places}
+use Rattle.ja_ir.specs.InnerLeaders.{with_places}
 use Rattle.ja_ir.proofs.block.mark_places.Given as goal
 
 -- what is left to mark makes of the flags what all places make of those at the start

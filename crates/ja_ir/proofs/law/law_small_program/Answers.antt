@@ -43,6 +43,5 @@ returns c = record {
     method_with_code = refl;
     method_without_code = refl;
     other_method = refl;
-    types = refl;
   };
 }

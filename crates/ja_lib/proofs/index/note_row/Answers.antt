@@ -1,4 +1,4 @@
-use Rattle.ja_index.specs.Numbers.{numbers_at}
+use Rattle.ja_base.specs.Index.{numbers_at}
 use Rattle.ja_lib.proofs.Places.{class_noted}
 use Rattle.ja_lib.proofs.index.note_row.Goals as goal
 

@@ -8,5 +8,5 @@ use Rattle.ja_lib.proofs.spelled.read_all.Given as goal
 -- the tables so far spell the things so far, and with those behind them they are the array's tables
 abbrev pub invariant-loop-place : goal.invariant-loop-place
 invariant-loop-place g l = (tables : List Members) → AreTables l.values tables →
-    (done : List Members) × (length done ≡ l.place) × SpellAll g.T.Spelled.spells done l.things
+    (done : List Members) × (length done ≡ l.place) × SpellAll (g.T.Spelled.spells l.categories) done l.things
     × (read_items (λ seen. as_table) done (items_view (drop l.place l.values)) ≡ Some tables)

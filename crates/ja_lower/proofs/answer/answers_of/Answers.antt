@@ -19,5 +19,5 @@ returns g c =
     let slice = ap (λ it. it.base.slice.now) c.map.ensures.base ∙ ap (λ it. it.slice.now) c.with_min_len.ensures.base ∙ c.par_iter.ensures ∙ c.as_slice-places.ensures in
     let h = c.in_ok-answers.ensures in
     let chain = rw c.map.ensures.f at h.1 in
-    rw h.2 (answers-from c.args.table.now.rows c.args.classes.now zero zero c.args.places.now h.0 c.requires.places
-    (slice-AllZip chain.0 c.args.places.now (chain.1 ∙ slice) (IsAnswerAt c.args.table.now.rows c.args.classes.now) h.0 chain.2))
+    rw h.2 (answers-from c.args.table.now c.args.classes.now zero zero c.args.places.now h.0 c.requires.places
+    (slice-AllZip chain.0 c.args.places.now (chain.1 ∙ slice) (IsAnswerAt c.args.table.now c.args.classes.now) h.0 chain.2))

@@ -8,25 +8,25 @@ use Rattle.ja_lower.proofs.methods.code_of.Goals as goal
 pub loop-answer-init : goal.loop-answer-init
 loop-answer-init g c = record {
   way =
-      under-way c.args.table.now.rows c.args.classes.now c.new.result c.new-2.result (into_iter_items c.into_iter-answer-iterator.result)
-      (nothing-yet c.args.table.now.rows c.args.classes.now c.new.result c.new-2.result c.new.ensures c.new-2.ensures)
-      (subst (AnswersFrom c.args.table.now.rows c.args.classes.now zero zero) (sym c.into_iter-answer-iterator.ensures.into_iter_gives.0) c.in_ok-answers.ensures);
+      under-way c.args.table.now c.args.classes.now c.new.result c.new-2.result (into_iter_items c.into_iter-answer-iterator.result)
+      (nothing-yet c.args.table.now c.args.classes.now c.new.result c.new-2.result c.new.ensures c.new-2.ensures)
+      (subst (AnswersFrom c.args.table.now c.args.classes.now zero zero) (sym c.into_iter-answer-iterator.ensures.into_iter_gives.0) c.in_ok-answers.ensures);
   counted = c.into_iter-answer-iterator.ensures.into_iter_gives.1 ∙ c.in_ok-answers.answers.ok.0 ∙ sym (ap length c.into_iter-answer-iterator.ensures.into_iter_gives.0);
 }
 
 pub add_answer-requires-clause-answer : goal.add_answer-requires-clause-answer
 add_answer-requires-clause-answer g c =
-    (next-answer c.args.table.now.rows c.args.classes.now c.loop-answer.code.methods c.loop-answer.code.sites c.in-Some.answer (into_iter_items c.next.new.self) (into_iter_items c.loop-answer.answer-iterator)
+    (next-answer c.args.table.now c.args.classes.now c.loop-answer.code.methods c.loop-answer.code.sites c.in-Some.answer (into_iter_items c.next.new.self) (into_iter_items c.loop-answer.answer-iterator)
     c.in-Some.ensures.steps.0 c.loop-answer.invariant.way).answer_is
 
 pub add_answer-requires-clause-so_far : goal.add_answer-requires-clause-so_far
 add_answer-requires-clause-so_far g c =
-    (next-answer c.args.table.now.rows c.args.classes.now c.loop-answer.code.methods c.loop-answer.code.sites c.in-Some.answer (into_iter_items c.next.new.self) (into_iter_items c.loop-answer.answer-iterator)
+    (next-answer c.args.table.now c.args.classes.now c.loop-answer.code.methods c.loop-answer.code.sites c.in-Some.answer (into_iter_items c.next.new.self) (into_iter_items c.loop-answer.answer-iterator)
     c.in-Some.ensures.steps.0 c.loop-answer.invariant.way).so_far
 
 pub loop-answer-preserved : goal.loop-answer-preserved
 loop-answer-preserved g c =
-    let next = next-answer c.args.table.now.rows c.args.classes.now c.loop-answer.code.methods c.loop-answer.code.sites c.in-Some.answer (into_iter_items c.next.new.self) (into_iter_items c.loop-answer.answer-iterator)
+    let next = next-answer c.args.table.now c.args.classes.now c.loop-answer.code.methods c.loop-answer.code.sites c.in-Some.answer (into_iter_items c.next.new.self) (into_iter_items c.loop-answer.answer-iterator)
     c.in-Some.ensures.steps.0 c.loop-answer.invariant.way in
     record {
       way = record { c = _; k = _; so_far = c.in_ok-add_answer.ensures.added; answers_left = next.answers_left };
@@ -39,10 +39,10 @@ loop-answer-preserved g c =
 
 pub returns-clause-methods : goal.returns-clause-methods
 returns-clause-methods g c =
-    (no-answer-left c.args.table.now.rows c.args.classes.now c.loop-answer.code.methods c.loop-answer.code.sites (into_iter_items c.loop-answer.answer-iterator)
+    (no-answer-left c.args.table.now c.args.classes.now c.loop-answer.code.methods c.loop-answer.code.sites (into_iter_items c.loop-answer.answer-iterator)
     (nothing-left _ (sym c.loop-answer.invariant.counted ∙ c.in-None.ensures.steps.0)) c.loop-answer.invariant.way).methods_are
 
 pub returns-clause-sites : goal.returns-clause-sites
 returns-clause-sites g c =
-    (no-answer-left c.args.table.now.rows c.args.classes.now c.loop-answer.code.methods c.loop-answer.code.sites (into_iter_items c.loop-answer.answer-iterator)
+    (no-answer-left c.args.table.now c.args.classes.now c.loop-answer.code.methods c.loop-answer.code.sites (into_iter_items c.loop-answer.answer-iterator)
     (nothing-left _ (sym c.loop-answer.invariant.counted ∙ c.in-None.ensures.steps.0)) c.loop-answer.invariant.way).sites_are

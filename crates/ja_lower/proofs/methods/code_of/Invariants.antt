@@ -5,6 +5,6 @@ use Rattle.ja_lower.proofs.methods.code_of.Given as goal
 
 abbrev pub invariant-loop-answer : goal.invariant-loop-answer
 invariant-loop-answer g l = record {
-  way : AreUnderWay l.table.rows l.classes l.code.methods l.code.sites (into_iter_items l.answer-iterator);
+  way : AreUnderWay l.table l.classes l.code.methods l.code.sites (into_iter_items l.answer-iterator);
   counted : into_iter_len l.answer-iterator ≡ length (into_iter_items l.answer-iterator);
 }

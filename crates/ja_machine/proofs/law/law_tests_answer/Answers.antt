@@ -6,5 +6,5 @@ pub returns : goal.returns
 returns c = record {
   reached = λ heap a b. is_reached-says links heap a b;
   held = λ heap a b. is_reached-says bag_links heap a b;
-  tainted = λ heap value. is_tainted-says heap value;
+  tainted = λ k heap value. is_tainted-says k heap value;
 }

@@ -1,8 +1,8 @@
 use Rattle.std.proofs.Common.{rules, ◌≡◌, ◌<◌, ◌+◌, ◌++◌, ◌∷◌, [], ℕ, List, length, true, sym, ◌∙◌, ap, subst, arith}
 use Rattle.std.specs.Prelude.{Contains}
 use Rattle.std.proofs.lemmas.List.Elements.{Contains-push}
-use Rattle.ja_machine.specs.Search.{Seen, begun}
-use Rattle.ja_machine.specs.Searches.{seen_by}
+use Rattle.ja_machine.specs.InnerSearch.{Seen, begun}
+use Rattle.ja_machine.specs.InnerSeen.{seen_by}
 use Rattle.ja_machine.proofs.Meets.{has, missing}
 use Rattle.ja_machine.proofs.Explores.{Explores, begins, looked, falls, tells, has-inside}
 use Rattle.ja_machine.proofs.reach.reached.Goals as goal

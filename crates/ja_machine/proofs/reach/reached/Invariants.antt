@@ -1,5 +1,5 @@
 use Rattle.std.proofs.Common.{◌+◌, length}
-use Rattle.ja_machine.specs.Searches.{seen_by}
+use Rattle.ja_machine.specs.InnerSeen.{seen_by}
 use Rattle.ja_machine.proofs.Meets.{missing}
 use Rattle.ja_machine.proofs.Explores.{Explores}
 use Rattle.ja_machine.proofs.reach.reached.Given as goal

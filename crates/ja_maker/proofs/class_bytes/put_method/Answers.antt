@@ -1,4 +1,4 @@
-use Rattle.ja_attr.specs.Attribute.{attributes_bytes}
+use Rattle.ja_attributes.specs.Attribute.{attributes_bytes}
 use Rattle.ja_assembly.specs.Members.{instructions_in, ranges_in}
 use Rattle.ja_assembly.specs.Assembled.{u2, text_index, attributes_of}
 use Rattle.ja_maker.specs.Writing.{pool_in}

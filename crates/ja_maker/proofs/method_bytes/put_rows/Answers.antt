@@ -1,6 +1,6 @@
 use Rattle.std.proofs.Common.{◌≡◌, [], ◌++◌, refl, sym, ap, ◌∙◌, append_assoc}
 use Rattle.std.proofs.lemmas.List.{append-nil}
-use Rattle.ja_attr.specs.Attribute.{handler_bytes}
+use Rattle.ja_attributes.specs.Attribute.{handler_bytes}
 use Rattle.ja_assembly.specs.Labels.{places}
 use Rattle.ja_assembly.specs.Assembled.{row_of}
 use Rattle.ja_assembly.specs.Members.{ranges_in}

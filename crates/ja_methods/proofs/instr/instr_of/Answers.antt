@@ -20,7 +20,7 @@ pub returns-clause-ok : goal.returns-clause-ok
 returns-clause-ok c = λ raw at.
     let read = slice_get_read c.args.instrs.now _ c.args.k c.index-instrs-k.result refl c.requires.there c.index-instrs-k.is in
     let same : c.index-instrs-k.result ≡ raw = same-item c.args.instrs.now c.args.k c.args.k c.index-instrs-k.result raw refl read at in
-    subst (λ (x : RawInstr). IsInstrOf c.args.scene.now.hier.now c.args.scene.now.table.now.rows c.args.scene.now.class.0 c.args.scene.now.pool.now c.args.instrs.now (option_copied c.args.before) c.args.k x
+    subst (λ (x : RawInstr). IsInstrOf c.args.scene.now.hier.now c.args.scene.now.table.now c.args.scene.now.class.0 c.args.scene.now.pool.now c.args.instrs.now (option_copied c.args.before) c.args.k x
     (record { pc = c.index-instrs-k.result.pc; op = c.in-Ok.op; next = c.in_ok-next.next; height = c.height_of.result; reached = c.is_some.result }))
     same (record {
       pc_is = refl;
@@ -39,4 +39,4 @@ returns-clause-clean c = λ raw at.
     let read = slice_get_read c.args.instrs.now _ c.args.k c.index-instrs-k.result refl c.requires.there c.index-instrs-k.is in
     let same : c.index-instrs-k.result ≡ raw = same-item c.args.instrs.now c.args.k c.args.k c.index-instrs-k.result raw refl read at in
     subst (λ (x : RawInstr). IsUnrefused c.args.scene.now.hier.now c.args.scene.now.class.0 c.args.scene.now.pool.now x) same
-    (λ fault. c.law_one_operation.ensures.not_both c.args.scene.now.hier.now c.args.scene.now.table.now.rows c.args.scene.now.class.0 c.args.scene.now.pool.now c.index-instrs-k.result (option_copied c.args.before) c.in-Ok.op fault c.in-Ok.ensures.ok)
+    (λ fault. c.law_one_operation.ensures.not_both c.args.scene.now.hier.now c.args.scene.now.table.now c.args.scene.now.class.0 c.args.scene.now.pool.now c.index-instrs-k.result (option_copied c.args.before) c.in-Ok.op fault c.in-Ok.ensures.ok)

@@ -7,7 +7,7 @@ use Rattle.ja_code.specs.declared.instr.RawInstr.{RawInstr}
 use Rattle.ja_code.specs.declared.handler.RawHandler.{RawHandler}
 use Rattle.ja_class.specs.Meaning.{ClassSpelled}
 use Rattle.ja_class.specs.ClassFile.{IsSpelled}
-use Rattle.ja_ops.specs.Profile.{IsProfiled}
+use Rattle.ja_operations.specs.Profile.{IsProfiled}
 use Rattle.ja_methods.specs.declared.fault.MethodFault.TheVariants as faults
 use Rattle.ja_methods.specs.Handlers.{NamesCaught}
 use Rattle.ja_methods.specs.Method.{IsCodeOf}

@@ -7,7 +7,7 @@ use Rattle.ja_class.specs.declared.class.ClassMethod.{ClassMethod}
 use Rattle.ja_class.specs.Meaning.{ClassSpelled}
 use Rattle.ja_class.specs.ClassFile.{IsSpelled}
 use Rattle.ja_methods.specs.Refusal.{IsRefused}
-use Rattle.ja_methods.proofs.Profile.{body-count}
+use Rattle.ja_methods.proofs.Profile.{body-count, method-desc}
 use Rattle.ja_methods.proofs.Coded.{code-refused, content-few}
 use Rattle.ja_methods.proofs.method.method_or_refusal.Goals as goal
 
@@ -41,7 +41,7 @@ sites_of-requires c =
     let none : ClassMethod = record { code = Rattle.std.specs.Prelude.None; max_stack = 0; max_locals = 0 } in
     let body : ClassMethod = Rattle.std.proofs.Common.get_or c.args.class.now.methods c.args.m none in
     let at : slice_get c.args.class.now.methods c.args.m ≡ Some body = slice_get-get_or c.args.class.now.methods c.args.m none lt in
-    let few : length c.in_ok-content.content.code ≤ 65535 = content-few c.args.hier.now c.args.table.now.rows c.args.class.now spelled c.args.c.0 c.args.m body body.code c.in_ok-content.content.code c.in_ok-content.content.handlers at refl (c.in_ok-content.ensures.ok body at) in
+    let few : length c.in_ok-content.content.code ≤ 65535 = content-few c.args.hier.now c.args.table.now c.args.class.now spelled c.args.c.0 c.args.m body body.code c.in_ok-content.content.code c.in_ok-content.content.handlers at refl (c.in_ok-content.ensures.ok body at) in
     omega (arith, few, ap length c.as_slice.ensures)
 
 pub at-body-requires : goal.at-body-requires
@@ -49,3 +49,15 @@ at-body-requires c =
     let inside : ClassSpelled = record { head = c.class.inside.head; pool = c.class.inside.pool; methods = c.class.inside.methods } in
     let heads : length inside.head.methods ≡ length c.args.class.now.head.methods = ap (λ (x : ClassSpelled). length x.head.methods) c.class.view_is in
     omega (arith, body-count inside c.class.invariant, heads, c.requires.method, c.from-2.ensures)
+
+pub desc_types-requires : goal.desc_types-requires
+desc_types-requires c =
+    let inside : ClassSpelled = record { head = c.class.inside.head; pool = c.class.inside.pool; methods = c.class.inside.methods } in
+    let spelled : IsSpelled c.args.class.now = subst IsSpelled c.class.view_is c.class.invariant in
+    let lt : c.args.m < length c.args.class.now.methods = omega (arith, body-count c.args.class.now spelled, c.requires.method) in
+    let none : ClassMethod = record { code = Rattle.std.specs.Prelude.None; max_stack = 0; max_locals = 0 } in
+    let body : ClassMethod = Rattle.std.proofs.Common.get_or c.args.class.now.methods c.args.m none in
+    let at : slice_get c.args.class.now.methods c.args.m ≡ Some body = slice_get-get_or c.args.class.now.methods c.args.m none lt in
+    let head = moved-head inside c.args.class.now c.class.view_is c.args.m c.from.result c.from.ensures c.at-head.result.now c.at-head.ensures in
+    let said = method-desc c.args.class.now spelled c.args.m c.at-head.result.now body (record { head_at = head; body_at = at }) in
+    record { params = said.params; result = said.result; method = said.method }

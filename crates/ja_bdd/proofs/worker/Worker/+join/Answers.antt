@@ -25,7 +25,7 @@ invariant_of-self g t c =
     let e = c.cut_both-cut.ensures in
     let s1 = c.cut_both-cut.new.seat in
     let part1 = same_part s s1 e.seat.1 in
-    record { counted = c.args.self.now.counted; right = seat_right s s1 None c.args.self.now.cache.items part1 c.args.self.now.right }
+    record { counted = c.args.self.now.counted; early = c.args.self.now.early; right = seat_right s s1 None c.args.self.now.cache.items part1 c.args.self.now.right }
 
 pub join-requires : goal.join-requires
 join-requires g t c κs within =

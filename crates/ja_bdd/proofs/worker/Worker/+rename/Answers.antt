@@ -34,7 +34,7 @@ pub invariant_of-self : goal.invariant_of-self
 invariant_of-self g t c =
     let w = c.args.self.now in
     let part = same_part w.seat c.parts-parts.new.seat c.parts-parts.ensures.seat.1 in
-    record { counted = w.counted; right = seat_right w.seat c.parts-parts.new.seat None w.cache.items part w.right }
+    record { counted = w.counted; early = w.early; right = seat_right w.seat c.parts-parts.new.seat None w.cache.items part w.right }
 
 pub rename-requires : goal.rename-requires
 rename-requires g t c κs within =

@@ -8,5 +8,5 @@ use Rattle.ja_lib.proofs.row_part.TableRowSpelled.read.Goals as goal
 pub returns-in_err-desc : goal.returns-in_err-desc
 returns-in_err-desc c =
     let p = err_from_is_err_and c.from_residual-in_err-desc.result c.from_residual-in_err-desc.ensures.1 in
-    rw (p.1, p.2) (finds_without (MayBeDesc (seen_of c.value_at-3.result)) (SpellsRow (table_view c.args.members.now))
+    rw (p.1, p.2) (finds_without (MayBeDesc (seen_of c.value_at-3.result)) (SpellsRow c.args.categories.now (table_view c.args.members.now))
     (λ spelled is. (spelled.desc, rw c.value_at-3.ensures is.desc)) c.in_err-desc.field-0.0 c.in_err-desc.ensures)

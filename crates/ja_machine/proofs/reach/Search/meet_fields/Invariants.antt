@@ -1,6 +1,6 @@
 use Rattle.std.proofs.Common.{◌≡◌, drop}
-use Rattle.ja_machine.specs.Search.{meets_fields}
-use Rattle.ja_machine.specs.Searches.{seen_by}
+use Rattle.ja_machine.specs.InnerSearch.{meets_fields}
+use Rattle.ja_machine.specs.InnerSeen.{seen_by}
 use Rattle.ja_machine.proofs.reach.Search.meet_fields.Given as goal
 
 -- what is left to meet makes of the search what all fields make of it at the start

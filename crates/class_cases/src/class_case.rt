@@ -1,0 +1,59 @@
+//! Cases of whole class files.
+use crate::case::CaseFault;
+use crate::class_text::{add_class, add_first_method};
+use crate::spelling::bytes_of;
+use ja_base::File;
+use ja_class::{ClassFault, FirstFault, read_class, read_first};
+use std::alloc::Global;
+
+/// Adds what is read of a class file.
+pub fn add_read_class(
+    alloc: Global,
+    out: &mut String,
+    kept: &[File],
+    text: &str,
+) -> Result<(), CaseFault> {
+    let bytes = bytes_of(alloc, kept, text)?;
+    match read_class(alloc, bytes.as_slice()) {
+        Ok(class) => add_class(out, &class)?,
+        Err(ClassFault::Memory) => return Err(CaseFault::Memory),
+        Err(fault) => writeln!(out, "  {fault:?}")?,
+    }
+    Ok(())
+}
+
+/// Adds which fault the fronts of bytes have, from the lengths on at which it is another one than before.
+pub fn add_class_cuts(
+    alloc: Global,
+    out: &mut String,
+    kept: &[File],
+    text: &str,
+) -> Result<(), CaseFault> {
+    let bytes = bytes_of(alloc, kept, text)?;
+    let mut before = None;
+    for length in 0..=bytes.len() {
+        let front = bytes.as_slice().get(..length).unwrap_or(&[]);
+        let fault = read_class(alloc, front).err();
+        if before != Some(fault) {
+            writeln!(out, "  length {length} {fault:?}")?;
+            before = Some(fault);
+        }
+    }
+    Ok(())
+}
+
+/// Adds what is read of a class of the first form.
+pub fn add_first(
+    alloc: Global,
+    out: &mut String,
+    kept: &[File],
+    text: &str,
+) -> Result<(), CaseFault> {
+    let bytes = bytes_of(alloc, kept, text)?;
+    match read_first(alloc, bytes.as_slice()) {
+        Ok(method) => add_first_method(out, &method)?,
+        Err(FirstFault::Memory) => return Err(CaseFault::Memory),
+        Err(fault) => writeln!(out, "  {fault:?}")?,
+    }
+    Ok(())
+}

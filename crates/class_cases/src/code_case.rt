@@ -1,0 +1,72 @@
+//! Cases of the code of methods.
+use crate::case::CaseFault;
+use crate::code_text::add_code_lines;
+use crate::spelling::{bytes_of, kept_bytes};
+use ja_base::File;
+use ja_bytes::{Cursor, End};
+use ja_code::{Code, CodeFault, RawHandler, decode};
+use std::alloc::Global;
+
+/// The most bytes of a code, and the most rows of an exception table.
+const MOST: usize = 65535;
+
+/// The next row of an exception table.
+fn next_row(c: &mut Cursor<'_>) -> Result<RawHandler, End> {
+    let start = c.u2()?;
+    let end = c.u2()?;
+    let handler = c.u2()?;
+    let catch_type = c.u2()?;
+    Ok(RawHandler {
+        start,
+        end,
+        handler,
+        catch_type,
+    })
+}
+
+/// The rows of an exception table, each of eight bytes.
+fn rows_of(alloc: Global, bytes: &[u8]) -> Result<Vec<RawHandler>, CaseFault> {
+    let mut rows = Vec::new(alloc);
+    let mut c = Cursor::new(bytes);
+    for _ in 0..bytes.len() / 8 {
+        match next_row(&mut c) {
+            Ok(row) => rows.push(row)?,
+            Err(_) => return Err(CaseFault::Notation),
+        }
+    }
+    Ok(rows)
+}
+
+/// What code and rows decode to.
+fn decoded(
+    alloc: Global,
+    kept: &[File],
+    code: &[u8],
+    rows: &[RawHandler],
+) -> Result<Result<Code, CodeFault>, CaseFault> {
+    let tags = kept_bytes(kept, "tags")?;
+    let dims = kept_bytes(kept, "dims")?;
+    if code.len() > MOST || rows.len() > MOST {
+        return Err(CaseFault::Notation);
+    }
+    Ok(decode(alloc, code, tags, dims, rows))
+}
+
+/// Adds what the code of a method and its exception table decode to.
+pub fn add_code(
+    alloc: Global,
+    out: &mut String,
+    kept: &[File],
+    text: &str,
+) -> Result<(), CaseFault> {
+    let (code, rows) = text.split_once(';').unwrap_or((text, ""));
+    let code = bytes_of(alloc, kept, code)?;
+    let rows = bytes_of(alloc, kept, rows)?;
+    let rows = rows_of(alloc, rows.as_slice())?;
+    match decoded(alloc, kept, code.as_slice(), rows.as_slice())? {
+        Ok(code) => add_code_lines(out, None, &code)?,
+        Err(CodeFault::Memory) => return Err(CaseFault::Memory),
+        Err(fault) => writeln!(out, "  {fault:?}")?,
+    }
+    Ok(())
+}

@@ -1,0 +1,113 @@
+//! Cases of constant pools.
+use crate::case::{CaseFault, number_of, parted};
+use crate::entry_text::EntryText;
+use crate::spelling::bytes_of;
+use ja_base::File;
+use ja_bytes::Cursor;
+use ja_pool::{Pool, PoolFault, read_pool};
+use std::alloc::{AllocError, Global};
+
+/// What is read of a pool that begins at a place of a file, and the place behind it.
+fn read_at(alloc: Global, bytes: &[u8], place: usize) -> (Result<Pool, PoolFault>, u64) {
+    let mut c = Cursor::new(bytes);
+    let _front = c.take(place as u64);
+    let read = read_pool(alloc, &mut c);
+    (read, c.place())
+}
+
+/// The pool that begins at the front of bytes.
+pub fn pool_of(alloc: Global, bytes: &[u8]) -> Result<Pool, CaseFault> {
+    match read_at(alloc, bytes, 0) {
+        (Ok(pool), _) => Ok(pool),
+        (Err(PoolFault::Memory), _) => Err(CaseFault::Memory),
+        (Err(_), _) => Err(CaseFault::Notation),
+    }
+}
+
+/// Adds numbers of one byte.
+fn add_numbers(out: &mut String, word: &str, numbers: &[u8]) -> Result<(), AllocError> {
+    write!(out, "  {word}")?;
+    for number in numbers {
+        write!(out, " {number}")?;
+    }
+    writeln!(out)
+}
+
+/// Adds a fault.
+fn add_fault(out: &mut String, fault: PoolFault) -> Result<(), CaseFault> {
+    match fault {
+        PoolFault::Memory => Err(CaseFault::Memory),
+        other => Ok(writeln!(out, "  {other:?}")?),
+    }
+}
+
+/// Adds what is read of a pool as a whole.
+pub fn add_pool(
+    alloc: Global,
+    out: &mut String,
+    kept: &[File],
+    text: &str,
+) -> Result<(), CaseFault> {
+    let (place, spelled) = parted(text);
+    let bytes = bytes_of(alloc, kept, spelled)?;
+    let (read, behind) = read_at(alloc, bytes.as_slice(), number_of(place)?);
+    match read {
+        Err(fault) => add_fault(out, fault),
+        Ok(pool) => {
+            writeln!(out, "  place {behind} count {}", pool.count())?;
+            add_numbers(out, "tags", pool.tags())?;
+            Ok(add_numbers(out, "dims", pool.dims())?)
+        }
+    }
+}
+
+/// Adds the entry at an index, if one stands there.
+fn add_entry(out: &mut String, pool: &Pool, index: u32) -> Result<(), AllocError> {
+    if pool.tag(index) == 0 {
+        return Ok(());
+    }
+    write!(out, "  {index} at {} ", pool.tag_at(index))?;
+    writeln!(out, "{}", EntryText(pool, index))
+}
+
+/// Adds each entry that is read of a pool.
+pub fn add_entries(
+    alloc: Global,
+    out: &mut String,
+    kept: &[File],
+    text: &str,
+) -> Result<(), CaseFault> {
+    let (place, spelled) = parted(text);
+    let bytes = bytes_of(alloc, kept, spelled)?;
+    let (read, _) = read_at(alloc, bytes.as_slice(), number_of(place)?);
+    match read {
+        Err(fault) => add_fault(out, fault),
+        Ok(pool) => {
+            for index in 0..pool.count() {
+                add_entry(out, &pool, index)?;
+            }
+            Ok(())
+        }
+    }
+}
+
+/// Adds which fault the fronts of bytes have, from the lengths on at which it is another one than before.
+pub fn add_pool_cuts(
+    alloc: Global,
+    out: &mut String,
+    kept: &[File],
+    text: &str,
+) -> Result<(), CaseFault> {
+    let bytes = bytes_of(alloc, kept, text)?;
+    let mut before = None;
+    for length in 0..=bytes.len() {
+        let front = bytes.as_slice().get(..length).unwrap_or(&[]);
+        let (read, _) = read_at(alloc, front, 0);
+        let fault = read.err();
+        if before != Some(fault) {
+            writeln!(out, "  length {length} {fault:?}")?;
+            before = Some(fault);
+        }
+    }
+    Ok(())
+}

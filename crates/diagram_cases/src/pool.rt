@@ -1,0 +1,189 @@
+//! A worker, and the nodes that it was asked for.
+ghost use Rattle.std.specs.Prelude.{◌≡◌, ◌⊎◌, IfSome, IfOk, OnOk};
+ghost use Rattle.std.specs.List.{All};
+ghost use Rattle.ja_node_core.specs.Node.{Knows};
+ghost use Rattle.ja_node_table.specs.Seats.{IsOf};
+ghost use Rattle.ja_bdd.specs.Meaning.{Keeps};
+ghost use Rattle.ja_bdd.specs.Workers.{IsWorkerOf, seen};
+
+use ja_base::Memory;
+use ja_bdd::{Assign, Worker};
+use ja_node_core::AnyAim;
+use ja_node_table::{Node, NodeSeat, NodeTable, Parts};
+use std::alloc::Global;
+
+/// The last variable.
+pub const LAST: u32 = 4094;
+
+/// One operation of a worker.
+#[derive(Clone, Copy)]
+pub enum Step {
+    Literal(u32, bool),
+    And,
+    Or,
+    Exists(u32),
+}
+
+/// Makes one operation, of a worker that knows both nodes.
+fn ask(
+    table: &NodeTable<AnyAim>,
+    worker: &mut Worker<AnyAim>,
+    step: Step,
+    f: Node,
+    g: Node,
+) -> Option<Node>
+    requires worker { IsWorkerOf table.now worker.old }
+    requires known { Knows (seen worker.old) f.number × Knows (seen worker.old) g.number }
+    ensures worker { IsWorkerOf table.now worker.new }
+    ensures keeps { Keeps (seen worker.old) (seen worker.new) }
+    ensures known { IfSome result (λ n. Knows (seen worker.new) n.number) }
+{
+    match step {
+        Step::Literal(var, true) => worker
+            .make(table, var.min(LAST), Node::FALSE, Node::TRUE)
+            .ok(),
+        Step::Literal(var, false) => worker
+            .make(table, var.min(LAST), Node::TRUE, Node::FALSE)
+            .ok(),
+        Step::And => worker.and(table, f, g).ok(),
+        Step::Or => worker.or(table, f, g).ok(),
+        Step::Exists(var) => worker.exists(table, f, var).ok(),
+    }
+}
+
+/// The child that a point, whose bits are the values of the first variables, leads to.
+fn child_at(parts: Parts, point: usize) -> Node
+    ensures { (result ≡ parts.lo) ⊎ (result ≡ parts.hi) }
+{
+    if point >> parts.var.min(12) & 1 == 1 {
+        parts.hi
+    } else {
+        parts.lo
+    }
+}
+
+/// The value of a known node at a point.
+fn value_at(table: &NodeTable<AnyAim>, worker: &mut Worker<AnyAim>, n: Node, point: usize) -> bool
+    requires worker { IsWorkerOf table.now worker.old }
+    requires known { Knows (seen worker.old) n.number }
+    ensures worker { IsWorkerOf table.now worker.new }
+    ensures same { seen worker.new ≡ seen worker.old }
+{
+    let mut at = n;
+    for _level in 0..LAST {
+        if at.number < 2 {
+            break;
+        }
+        let parts = worker.parts(table, at);
+        at = child_at(parts, point);
+    }
+    at == Node::TRUE
+}
+
+/// A worker with nodes that it knows.
+#[derive(Drop)]
+pub struct Pool {
+    worker: Worker<AnyAim>,
+    nodes: Vec<Node>,
+}
+
+impl Pool {
+    /// The pool of the two constants.
+    pub fn new(
+        alloc: Global,
+        table: &NodeTable<AnyAim>,
+        seat: NodeSeat<AnyAim>,
+    ) -> Result<Pool, Memory>
+        requires { IsOf table.now seat }
+        ensures { IfOk result (λ p. IsWorkerOf table.now p.worker × All (λ n. Knows (seen p.worker) n.number) p.nodes.items) }
+    {
+        let worker = Worker::new(alloc, seat).ok().ok_or(Memory)?;
+        let nodes = vec![in alloc; Node::FALSE, Node::TRUE]?;
+        Ok(Pool { worker, nodes })
+    }
+
+    /// A node.
+    fn node(&self, at: usize) -> Result<Node, Memory>
+        requires { All (λ n. Knows (seen self.now.worker) n.number) self.now.nodes.items }
+        ensures { IfOk result (λ n. Knows (seen self.now.worker) n.number) }
+    {
+        if at >= self.nodes.len() {
+            return Err(Memory);
+        }
+        let n = self.nodes[at];
+        Ok(n)
+    }
+
+    /// Makes one operation of two nodes, and answers the place of what was made.
+    pub fn step(
+        &mut self,
+        table: &NodeTable<AnyAim>,
+        step: Step,
+        f: usize,
+        g: usize,
+    ) -> Result<usize, Memory>
+        requires { IsWorkerOf table.now self.old.worker × All (λ n. Knows (seen self.old.worker) n.number) self.old.nodes.items }
+        ensures { OnOk result (IsWorkerOf table.now self.new.worker × All (λ n. Knows (seen self.new.worker) n.number) self.new.nodes.items) }
+    {
+        let f = self.node(f)?;
+        let g = self.node(g)?;
+        let Some(made) = ask(table, &mut self.worker, step, f, g) else {
+            return Err(Memory);
+        };
+        self.nodes.push(made)?;
+        Ok(self.nodes.len() - 1)
+    }
+
+    /// The value of a node at a point.
+    pub fn value(
+        &mut self,
+        table: &NodeTable<AnyAim>,
+        at: usize,
+        point: usize,
+    ) -> Result<bool, Memory>
+        requires { IsWorkerOf table.now self.old.worker × All (λ n. Knows (seen self.old.worker) n.number) self.old.nodes.items }
+        ensures { OnOk result (IsWorkerOf table.now self.new.worker × All (λ n. Knows (seen self.new.worker) n.number) self.new.nodes.items) }
+    {
+        let n = self.node(at)?;
+        Ok(value_at(table, &mut self.worker, n, point))
+    }
+
+    /// The variable and the children of a node that is no constant.
+    pub fn parts(&mut self, table: &NodeTable<AnyAim>, at: usize) -> Result<Parts, Memory>
+        requires { IsWorkerOf table.now self.old.worker × All (λ n. Knows (seen self.old.worker) n.number) self.old.nodes.items }
+        ensures { OnOk result (IsWorkerOf table.now self.new.worker × All (λ n. Knows (seen self.new.worker) n.number) self.new.nodes.items) }
+    {
+        let n = self.node(at)?;
+        if n.number < 2 {
+            return Err(Memory);
+        }
+        Ok(self.worker.parts(table, n))
+    }
+
+    /// Picks an assignment of a node.
+    pub fn pick(
+        &mut self,
+        table: &NodeTable<AnyAim>,
+        at: usize,
+        a: &mut Assign,
+    ) -> Result<bool, Memory>
+        requires { IsWorkerOf table.now self.old.worker × All (λ n. Knows (seen self.old.worker) n.number) self.old.nodes.items }
+        ensures { OnOk result (IsWorkerOf table.now self.new.worker × All (λ n. Knows (seen self.new.worker) n.number) self.new.nodes.items) }
+    {
+        let n = self.node(at)?;
+        Ok(self.worker.pick(table, n, a))
+    }
+
+    /// Makes both pools' workers know what either knew.
+    pub fn rejoin(&mut self, table: &NodeTable<AnyAim>, other: &mut Pool)
+        requires { IsWorkerOf table.now self.old.worker × All (λ n. Knows (seen self.old.worker) n.number) self.old.nodes.items × IsWorkerOf table.now other.old.worker × All (λ n. Knows (seen other.old.worker) n.number) other.old.nodes.items }
+        ensures { IsWorkerOf table.now self.new.worker × All (λ n. Knows (seen self.new.worker) n.number) self.new.nodes.items }
+    {
+        self.worker.rejoin(table, &mut other.worker);
+    }
+
+    /// The number of a node.
+    pub fn number(&self, at: usize) -> Option<u32> {
+        self.nodes.get(at).map(|n| n.number)
+    }
+}

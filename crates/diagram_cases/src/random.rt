@@ -1,0 +1,103 @@
+//! Random functions, at each point.
+ghost use Rattle.std.specs.Prelude.{◌≡◌, OnOk};
+ghost use Rattle.std.specs.List.{All};
+ghost use Rattle.ja_node_core.specs.Node.{Knows};
+ghost use Rattle.ja_bdd.specs.Workers.{IsWorkerOf, seen};
+
+use crate::pool::{Pool, Step};
+use ja_base::Memory;
+use ja_bdd::Assign;
+use ja_node_core::AnyAim;
+use ja_node_table::NodeTable;
+use std::alloc::Global;
+
+/// The values of a function of the first twelve variables at all points.
+type Values = [u64; 64];
+
+fn bit(values: &Values, point: usize) -> bool {
+    values[point / 64 % 64] >> (point % 64) & 1 == 1
+}
+
+/// The values that an operation is to give.
+fn expected(step: Step, f: &Values, g: &Values) -> Values {
+    let mut made = [0; 64];
+    for point in 0..4096 {
+        let value = match step {
+            Step::Literal(var, positive) => (point >> var.min(11) & 1 == 1) == positive,
+            Step::And => bit(f, point) && bit(g, point),
+            Step::Or => bit(f, point) || bit(g, point),
+            Step::Exists(var) => {
+                let mask = 1 << var.min(11);
+                bit(f, point | mask) || bit(f, (point | mask) ^ mask)
+            }
+        };
+        if value {
+            made[point / 64] |= 1 << (point % 64);
+        }
+    }
+    made
+}
+
+/// Whether a node has these values.
+fn agrees(
+    pool: &mut Pool,
+    table: &NodeTable<AnyAim>,
+    at: usize,
+    wanted: &Values,
+) -> Result<bool, Memory>
+    requires { IsWorkerOf table.now pool.old.worker × All (λ n. Knows (seen pool.old.worker) n.number) pool.old.nodes.items }
+    ensures { OnOk result (IsWorkerOf table.now pool.new.worker × All (λ n. Knows (seen pool.new.worker) n.number) pool.new.nodes.items) }
+{
+    for point in 0..4096 {
+        if pool.value(table, at, point)? != bit(wanted, point) {
+            return Err(Memory);
+        }
+    }
+    Ok(true)
+}
+
+/// The operation of a round.
+fn drawn(round: u32, random: u64) -> Step {
+    let var = (random >> 20 & 0xffff) as u32 % 12;
+    if round < 24 {
+        return Step::Literal(round % 12, round < 12);
+    }
+    match random >> 40 & 3 {
+        0 => Step::Exists(var),
+        1 => Step::And,
+        _ => Step::Or,
+    }
+}
+
+/// Adds how many functions, each made of two earlier ones, have their values at all points, and an assignment
+/// where they have one.
+pub fn add_random(out: &mut String, alloc: Global) -> Result<(), Memory> {
+    let (table, seat) = NodeTable::new(alloc, 65536, AnyAim)?;
+    let mut pool = Pool::new(alloc, &table, seat)?;
+    let mut a = Assign::new(alloc)?;
+    let mut values = vec![in alloc; [0u64; 64], [u64::MAX; 64]]?;
+    let mut random = 1u64;
+    let mut right = 0u32;
+    for round in 0..200 {
+        random = random
+            .wrapping_mul(0x5851_f42d_4c95_7f2d)
+            .wrapping_add(0x1405_7b7e_f767_814f);
+        let f = (random >> 44) as usize % (round as usize + 2);
+        let g = (random >> 24 & 0xfffff) as usize % (round as usize + 2);
+        let step = drawn(round, random);
+        let at = pool.step(&table, step, f, g)?;
+        let wanted = expected(
+            step,
+            values.get(f).ok_or(Memory)?,
+            values.get(g).ok_or(Memory)?,
+        );
+        let agrees = agrees(&mut pool, &table, at, &wanted)?;
+        let some = wanted.iter().any(|word| *word != 0);
+        let picked = pool.pick(&table, at, &mut a)?;
+        if agrees && picked == some {
+            right = right.saturating_add(1);
+        }
+        values.push(wanted)?;
+    }
+    Ok(writeln!(out, "random functions: {right} of 200 have their values")?)
+}

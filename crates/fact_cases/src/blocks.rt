@@ -1,0 +1,95 @@
+//! Blocks of a method.
+ghost use Rattle.std.specs.Prelude.{◌≡◌, ◌+◌, ◌<◌, ◌≤◌, All, IfOk, OnOk, length};
+ghost use Rattle.ja_ir.specs.Blocks.{StaysInside};
+
+use ja_base::{ClassId, Desc, Kind, Memory, Name, Seq};
+use ja_ir::{
+    CallKind, CallOp, Instr, Instrs, LibRow, Method, Op, RowEffect, RowFlow, RowResult, blocks_of,
+};
+use std::alloc::Global;
+
+/// A static call of a method of two parameters.
+fn call(alloc: Global, name: &[u8]) -> Result<Op, Memory> {
+    Ok(Op::Call(CallOp {
+        kind: CallKind::Static,
+        class: Name::of(alloc, b"F")?,
+        name: Name::of(alloc, name)?,
+        desc: Name::of(alloc, b"(Ljava/lang/String;I)Ljava/lang/String;")?,
+        params: Seq::new(alloc),
+        result: None,
+        row: LibRow {
+            flow: RowFlow::Args,
+            effect: RowEffect::Quiet,
+            result: RowResult::Fresh,
+            sinks: Seq::new(alloc),
+            marks: Seq::new(alloc),
+            category: 0,
+        },
+        found: None,
+    }))
+}
+
+/// Adds an instruction that leads to these indices, all of them below 8.
+fn add(code: &mut Instrs, alloc: Global, pc: u32, op: Op, next: &[u64]) -> Result<(), Memory>
+    requires below { All (λ j. j < 8) next.now }
+    requires so_far { All (λ instr. All (λ j. j < 8) instr.next) code.old }
+    ensures inside { OnOk result (All (λ instr. All (λ j. j < 8) instr.next) code.new) }
+    ensures size { OnOk result (length code.new ≡ length code.old + 1) }
+{
+    let next = Seq::from_vec(Vec::from_slice(alloc, next)?);
+    code.push(Instr {
+        pc,
+        op,
+        next,
+        height: 0,
+        reached: true,
+    })
+}
+
+/// A method that returns its text, or calls another method with a source's text:
+///
+/// ```text
+/// 0 iload_1, 1 ifne 6, 4 aload_0, 5 areturn, 6 invokestatic, 9 iload_1, 10 invokestatic, 13 areturn
+/// ```
+fn recursive(alloc: Global) -> Result<Method, Memory>
+    ensures inside { IfOk result StaysInside }
+    ensures size { IfOk result (λ m. length m.code ≡ 8) }
+{
+    let mut code: Instrs = Seq::new(alloc);
+    add(&mut code, alloc, 0, Op::Load(Kind::P1, 1), &[1])?;
+    add(&mut code, alloc, 1, Op::Branch { pops: 1 }, &[4, 2])?;
+    add(&mut code, alloc, 4, Op::Load(Kind::R, 0), &[3])?;
+    add(&mut code, alloc, 5, Op::Return(Some(Kind::R)), &[])?;
+    add(&mut code, alloc, 6, call(alloc, b"source")?, &[5])?;
+    add(&mut code, alloc, 9, Op::Load(Kind::P1, 1), &[6])?;
+    add(&mut code, alloc, 10, call(alloc, b"g")?, &[7])?;
+    add(&mut code, alloc, 13, Op::Return(Some(Kind::R)), &[])?;
+    Ok(Method {
+        class: ClassId(0),
+        name: Name::of(alloc, b"f")?,
+        desc: Name::of(alloc, b"(Ljava/lang/String;I)Ljava/lang/String;")?,
+        types: Desc {
+            params: Seq::new(alloc),
+            result: None,
+            words: 0,
+        },
+        flags: 9,
+        locals: 2,
+        stack: 2,
+        code,
+        handlers: Seq::new(alloc),
+    })
+}
+
+/// Adds where the blocks of the method begin.
+pub fn add_blocks(out: &mut String, alloc: Global) -> Result<(), Memory> {
+    let method = recursive(alloc)?;
+    let blocks = blocks_of(alloc, &method)?;
+    write!(out, "blocks {} at", blocks.len())?;
+    for block in blocks.as_slice() {
+        if let Some(instr) = method.code.as_slice().get(block.first as usize) {
+            write!(out, " {}", instr.pc)?;
+        }
+    }
+    Ok(writeln!(out)?)
+}

@@ -1,0 +1,104 @@
+//! Sets, names and parameters, as lines of the input ask for them.
+use ja_base::{ClassId, Memory, Name, NumbersByName, Seq};
+use ja_bytes::method_desc;
+use ja_facts::param_count;
+use ja_ir::Method;
+use ja_sets::{PairSet, TokenSet};
+use std::alloc::{AllocError, Global};
+
+/// What comes of the lines of a text that ask for something, each behind the line.
+pub fn small_text(alloc: Global, text: &str) -> Result<String, Memory> {
+    let mut out = String::new(alloc);
+    for line in text.lines() {
+        let words = words_of(alloc, line)?;
+        match words.as_slice() {
+            ["set", size, number] => {
+                write!(out, "{line}:")?;
+                add_set(&mut out, alloc, number_of(size), number_of(number))?;
+            }
+            ["pairs", size, first, second] => {
+                write!(out, "{line}:")?;
+                let pair = (number_of(first), number_of(second));
+                add_pair(&mut out, alloc, number_of(size), pair)?;
+            }
+            ["names", noted @ .., asked] => {
+                write!(out, "{line}:")?;
+                add_numbers(&mut out, alloc, noted, asked)?;
+            }
+            ["params", flags, desc] => {
+                write!(out, "{line}:")?;
+                add_params(&mut out, alloc, flags, desc)?;
+            }
+            _ => (),
+        }
+    }
+    Ok(out)
+}
+
+/// The words of a line.
+fn words_of<'a>(alloc: Global, line: &'a str) -> Result<Vec<&'a str>, AllocError> {
+    let mut words = Vec::new(alloc);
+    for word in line.split_whitespace() {
+        words.push(word)?;
+    }
+    Ok(words)
+}
+
+/// The number that a word spells, or the largest where it spells none.
+fn number_of(word: &str) -> u32 {
+    word.parse::<u32>().unwrap_or(u32::MAX)
+}
+
+/// Adds whether a number is new in an empty set of numbers below a size, and the least number then.
+fn add_set(out: &mut String, alloc: Global, size: u32, number: u32) -> Result<(), Memory> {
+    let mut set = TokenSet::new(alloc, size)?;
+    if number >= size {
+        return Ok(writeln!(out, " too large")?);
+    }
+    let added = set.add(number);
+    Ok(writeln!(out, " added {added}, least {:?}", set.next_from(0))?)
+}
+
+/// Adds whether a pair is new in an empty set of pairs of numbers below a size.
+fn add_pair(out: &mut String, alloc: Global, size: u32, pair: (u32, u32)) -> Result<(), Memory> {
+    let mut pairs = PairSet::new(alloc, size)?;
+    if pair.0 >= size || pair.1 >= size {
+        return Ok(writeln!(out, " too large")?);
+    }
+    Ok(writeln!(out, " added {}", pairs.add(pair))?)
+}
+
+/// Adds the numbers of a name, where each word `NAME=NUMBER` notes one.
+fn add_numbers(out: &mut String, alloc: Global, noted: &[&str], asked: &str) -> Result<(), Memory> {
+    let mut index = NumbersByName::new(alloc);
+    for word in noted {
+        if let Some((name, number)) = word.split_once('=') {
+            let name = Name::of(alloc, name.as_bytes())?;
+            index.note(alloc, &name, u64::from(number_of(number)))?;
+        }
+    }
+    let asked = Name::of(alloc, asked.as_bytes())?;
+    for number in index.at(&asked) {
+        write!(out, " {number}")?;
+    }
+    Ok(writeln!(out)?)
+}
+
+/// Adds how many parameters a method with these flags, in hexadecimal digits, and this descriptor has.
+fn add_params(out: &mut String, alloc: Global, flags: &str, desc: &str) -> Result<(), Memory> {
+    let Ok(types) = method_desc(alloc, desc.as_bytes()) else {
+        return Ok(writeln!(out, " no descriptor")?);
+    };
+    let method = Method {
+        class: ClassId(0),
+        name: Name::of(alloc, b"m")?,
+        desc: Name::of(alloc, desc.as_bytes())?,
+        types,
+        flags: u32::from_str_radix(flags, 16).unwrap_or(0),
+        locals: 0,
+        stack: 0,
+        code: Seq::new(alloc),
+        handlers: Seq::new(alloc),
+    };
+    Ok(writeln!(out, " {}", param_count(&method))?)
+}

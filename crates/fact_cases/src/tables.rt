@@ -1,0 +1,182 @@
+//! Each table of facts as its `new` makes it, and what it answers after writes.
+//!
+//! The program has one class, so five tokens, one field, and five methods: one of a constant, a call, a
+//! return and a throw, three of a return, and one without code.
+ghost use Rattle.std.specs.Prelude.{◌≡◌};
+ghost use Rattle.ja_ir.specs.Sample.{sample};
+
+use crate::sample::{CONSTRUCTOR, MAIN, MEMBER, WITHOUT_CODE};
+use ja_base::{FieldId, Memory, MethodId};
+use ja_facts::{CallGraph, Effects, Holds, Pairs, Reach, Rows, var_of};
+use ja_ir::{Program, Token};
+use std::alloc::Global;
+
+/// No method of the program.
+const NOWHERE: MethodId = MethodId(5);
+
+/// Adds what rows of numbers hold after writes.
+pub fn add_rows(out: &mut String, alloc: Global) -> Result<(), Memory> {
+    let mut rows = Rows::new(alloc);
+    write!(out, "rows {}", rows.len())?;
+    for item in [5u32, 6, 7] {
+        rows.push(item)?;
+    }
+    let len = rows.len();
+    *rows.at_mut(1) = 9;
+    write!(out, " {len}: {} {} {}", rows.at(0), rows.at(1), rows.at(2))?;
+    for place in [0, 1, 2, 3, u64::MAX] {
+        write!(out, ", {}", rows.at_or(place, &4))?;
+    }
+    Ok(writeln!(out)?)
+}
+
+/// Adds the numbers of some variables: of a slot and a copy of it.
+pub fn add_variables(out: &mut String) -> Result<(), Memory> {
+    let numbers = [var_of(0, 0), var_of(0, 3), var_of(1, 0), var_of(513, 3)];
+    Ok(writeln!(out, "variables {numbers:?}")?)
+}
+
+/// What the graph says of an instruction: whether it is reached, the number of its targets, whether the
+/// library is one, and the least taker.
+fn said(graph: &CallGraph, m: MethodId, i: u32) -> (bool, u64, bool, Option<u32>) {
+    let targets = graph.targets(m, i);
+    let taker = graph.takers(m, i).next_from(0);
+    (
+        graph.reached(m, i),
+        targets.methods.len(),
+        targets.library,
+        taker,
+    )
+}
+
+/// Adds what the call graph says at first, and what it answers to instructions that may run.
+pub fn add_reached(out: &mut String, alloc: Global, program: &Program) -> Result<(), Memory>
+    requires { program.now ≡ sample }
+{
+    let mut graph = CallGraph::new(alloc, program)?;
+    writeln!(out, "graph {:?}", said(&graph, MAIN, 1))?;
+    let first = graph.add(MAIN, 1);
+    let again = graph.add(MAIN, 1);
+    let other = graph.add(MEMBER, 0);
+    Ok(writeln!(out, "graph added {first} {again} {other}")?)
+}
+
+/// Adds what the call graph says of some instructions, after writes.
+pub fn add_calls(out: &mut String, alloc: Global, program: &Program) -> Result<(), Memory>
+    requires { program.now ≡ sample }
+{
+    let mut graph = CallGraph::new(alloc, program)?;
+    graph.add(MAIN, 1);
+    graph.add(MEMBER, 0);
+    let targets = graph.targets_mut(MAIN, 1);
+    targets.methods.push(2)?;
+    targets.library = true;
+    graph.takers_mut(MAIN, 1).add(4);
+    add_said(out, &graph)
+}
+
+/// Adds what the graph says of some instructions.
+fn add_said(out: &mut String, graph: &CallGraph) -> Result<(), Memory> {
+    let places = [
+        (MAIN, 0),
+        (MAIN, 1),
+        (MAIN, 2),
+        (MAIN, 4),
+        (CONSTRUCTOR, 0),
+        (MEMBER, 0),
+        (WITHOUT_CODE, 0),
+        (NOWHERE, 0),
+    ];
+    for (m, i) in places {
+        writeln!(out, "graph at {} {i}: {:?}", m.0, said(graph, m, i))?;
+    }
+    Ok(())
+}
+
+/// Adds which effects there are after writes.
+pub fn add_effects(out: &mut String, alloc: Global, program: &Program) -> Result<(), Memory>
+    requires { program.now ≡ sample }
+{
+    let mut effects = Effects::new(alloc, program)?;
+    let before = effects.has(MEMBER, 1);
+    let first = effects.add(MEMBER, 1);
+    let again = effects.add(MEMBER, 1);
+    let other = effects.add(MAIN, 0);
+    writeln!(out, "effects {before}, added {first} {again} {other}")?;
+    add_had(out, &effects)
+}
+
+/// Adds which of some effects there are.
+fn add_had(out: &mut String, effects: &Effects) -> Result<(), Memory> {
+    let places = [
+        (MAIN, 0),
+        (MAIN, 1),
+        (CONSTRUCTOR, 1),
+        (MEMBER, 0),
+        (MEMBER, 1),
+        (MEMBER, 2),
+        (NOWHERE, 0),
+    ];
+    for (m, k) in places {
+        writeln!(out, "effect {k} of {}: {}", m.0, effects.has(m, k))?;
+    }
+    Ok(())
+}
+
+/// Adds which heap pairs there are after a write to a method of some instructions.
+pub fn add_pairs(out: &mut String, alloc: Global, program: &Program) -> Result<(), Memory>
+    requires { program.now ≡ sample }
+{
+    let mut pairs = Pairs::new(alloc, program)?;
+    let added = pairs.at_mut(MAIN, 3).add((4, 0));
+    let held = pairs.at(MAIN, 3).contains((4, 0));
+    let turned = pairs.at(MAIN, 3).contains((0, 4));
+    let before = pairs.at(MAIN, 2).contains((4, 0));
+    Ok(writeln!(out, "pairs added {added}: {held} {turned} {before}")?)
+}
+
+/// Adds which heap pairs there are after a write to a method of one instruction.
+pub fn add_small_pairs(out: &mut String, alloc: Global, program: &Program) -> Result<(), Memory>
+    requires { program.now ≡ sample }
+{
+    let mut pairs = Pairs::new(alloc, program)?;
+    let added = pairs.at_mut(MEMBER, 0).add((5, 5));
+    let held = pairs.at(MEMBER, 0).contains((5, 5));
+    let other = pairs.at(CONSTRUCTOR, 0).contains((5, 5));
+    Ok(writeln!(out, "pairs added {added}: {held} {other}")?)
+}
+
+/// Adds which reachable pairs there are after a write.
+pub fn add_reach(out: &mut String, alloc: Global, program: &Program) -> Result<(), Memory>
+    requires { program.now ≡ sample }
+{
+    let mut reach = Reach::new(alloc, program)?;
+    let added = reach.at_mut(MAIN, 0).add((3, 2));
+    let held = reach.at(MAIN, 0).contains((3, 2));
+    let turned = reach.at(MAIN, 0).contains((2, 3));
+    let after = reach.at(MAIN, 1).contains((3, 2));
+    Ok(writeln!(out, "reach added {added}: {held} {turned} {after}")?)
+}
+
+/// Adds what the objects of a token hold at first, and after a write.
+pub fn add_held(out: &mut String, alloc: Global, program: &Program) -> Result<(), Memory>
+    requires { program.now ≡ sample }
+{
+    let mut holds = Holds::new(alloc, program)?;
+    let before = holds.of_token(Token(4)).next_from(0);
+    holds.of_token_mut(Token(4)).add(5);
+    let other = holds.of_token(Token(3)).next_from(0);
+    let after = holds.of_token(Token(4)).next_from(0);
+    Ok(writeln!(out, "token holds {before:?} {other:?} {after:?}")?)
+}
+
+/// Adds what a field holds at first, and after a write.
+pub fn add_field_held(out: &mut String, alloc: Global, program: &Program) -> Result<(), Memory>
+    requires { program.now ≡ sample }
+{
+    let mut holds = Holds::new(alloc, program)?;
+    let before = holds.of_field(FieldId(0)).next_from(0);
+    holds.of_field_mut(FieldId(0)).add(0);
+    let after = holds.of_field(FieldId(0)).next_from(0);
+    Ok(writeln!(out, "field holds {before:?} {after:?}")?)
+}

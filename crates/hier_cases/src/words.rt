@@ -1,0 +1,21 @@
+//! The words of lines.
+use std::alloc::{AllocError, Global};
+
+/// The words of a line.
+pub fn words_of<'a>(alloc: Global, line: &'a str) -> Result<Vec<&'a str>, AllocError> {
+    let mut words = Vec::new(alloc);
+    for word in line.split_whitespace() {
+        words.push(word)?;
+    }
+    Ok(words)
+}
+
+/// The number that a word spells, or the largest where it spells none.
+pub fn number(word: &str) -> u32 {
+    word.parse::<u32>().unwrap_or(u32::MAX)
+}
+
+/// The number that a word spells in hexadecimal digits, or the largest where it spells none.
+pub fn hexadecimal(word: &str) -> u32 {
+    u32::from_str_radix(word, 16).unwrap_or(u32::MAX)
+}

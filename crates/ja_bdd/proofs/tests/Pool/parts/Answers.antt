@@ -1,6 +1,0 @@
-use Rattle.std.proofs.Common.{sym, subst}
-use Rattle.ja_bdd.proofs.Pooled.{AreKnown}
-use Rattle.ja_bdd.proofs.tests.Pool.parts.Goals as goal
-
-pub returns : goal.returns
-returns c = (c.parts.ensures.worker, subst (λ k. AreKnown k c.args.self.now.nodes.items) (sym c.parts.ensures.same) c.requires.1)

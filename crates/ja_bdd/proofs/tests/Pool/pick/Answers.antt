@@ -1,6 +1,0 @@
-use Rattle.std.proofs.Common.{sym, subst}
-use Rattle.ja_bdd.proofs.Pooled.{AreKnown}
-use Rattle.ja_bdd.proofs.tests.Pool.pick.Goals as goal
-
-pub returns : goal.returns
-returns c = (c.pick.ensures.worker.0, subst (λ k. AreKnown k c.args.self.now.nodes.items) (sym c.pick.ensures.worker.1) c.requires.1)

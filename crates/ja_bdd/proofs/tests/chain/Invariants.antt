@@ -1,5 +1,0 @@
-use Rattle.ja_bdd.proofs.Pooled.{IsReady}
-use Rattle.ja_bdd.proofs.tests.chain.Given as goal
-
-abbrev pub invariant-loop-down : goal.invariant-loop-down
-invariant-loop-down l = IsReady l.table l.pool.worker l.pool.nodes.items

@@ -1,7 +1,0 @@
-use Rattle.ja_bdd.specs.Workers.{IsWorkerOf, seen}
-use Rattle.std.proofs.Common.{◌≡◌}
-use Rattle.ja_node_core.specs.Node.{Knows}
-use Rattle.ja_bdd.proofs.tests.value_at.Given as goal
-
-abbrev pub invariant-loop-level : goal.invariant-loop-level
-invariant-loop-level l = IsWorkerOf l.table l.worker × (seen l.worker ≡ seen l.fn.worker) × Knows (seen l.fn.worker) l.at.number

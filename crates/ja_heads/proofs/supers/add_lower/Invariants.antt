@@ -1,0 +1,7 @@
+use Rattle.std.proofs.Common.{◌≡◌, ◌++◌, filter, take}
+use Rattle.std.specs.Prelude.{nat_lt}
+use Rattle.ja_heads.specs.Signatures.{numbers_of}
+use Rattle.ja_heads.proofs.supers.add_lower.Given as goal
+
+abbrev pub invariant-loop-d : goal.invariant-loop-d
+invariant-loop-d l = numbers_of l.ids ≡ numbers_of l.initial.ids ++ filter (λ d. nat_lt d l.class.0) (take l.d-index l.above)

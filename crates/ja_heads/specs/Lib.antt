@@ -1,0 +1,6 @@
+pub mod Signatures
+pub mod Fields
+pub mod Entries
+pub mod Initializers
+pub mod Classes
+pub mod Supers

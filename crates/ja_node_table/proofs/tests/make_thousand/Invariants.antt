@@ -1,5 +1,0 @@
-use Rattle.ja_node_table.specs.Seats.{IsOf}
-use Rattle.ja_node_table.proofs.tests.make_thousand.Given as goal
-
-abbrev pub invariant-loop-step : goal.invariant-loop-step
-invariant-loop-step l = IsOf l.table l.seat

@@ -1,5 +1,0 @@
-use Rattle.ja_node_table.specs.Seats.{IsOf}
-use Rattle.ja_node_table.proofs.tests.the_largest_table_is_used.Given as goal
-
-abbrev pub invariant-loop-var : goal.invariant-loop-var
-invariant-loop-var g l = IsOf l.table l.seat

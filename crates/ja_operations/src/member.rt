@@ -1,0 +1,76 @@
+ghost use Rattle.std.specs.Prelude.{◌≡◌, ◌≢◌, IfOk, IsTrue};
+ghost use Rattle.ja_pool.specs.Table.{is_member_tag};
+ghost use Rattle.ja_kinds.specs.Effect.{operand_at};
+ghost use Rattle.ja_operations.specs.Names.{tag_named, class_in, member_in};
+
+use ja_base::{Memory, Name};
+use ja_code::RawInstr;
+use ja_pool::Pool;
+use std::alloc::Global;
+
+/// A field or method as an instruction names it (JVM specification 4.4.2).
+#[derive(Drop)]
+pub struct MemberRef {
+    /// The class or array class.
+    pub class: Name,
+    pub name: Name,
+    pub desc: Name,
+}
+
+/// The operand of an instruction at a place, 0 where it has none there.
+pub(crate) fn operand(instr: &RawInstr, place: u64) -> u64
+    ensures { result ≡ operand_at instr.now place }
+{
+    if place < instr.operands.len() {
+        *instr.operands.at(place)
+    } else {
+        0
+    }
+}
+
+/// The tag of the entry that an instruction names.
+pub(crate) fn tag_named(pool: &Pool, instr: &RawInstr) -> u8
+    ensures { result ≡ tag_named pool.now instr.now }
+{
+    let index = operand(instr, 0);
+    if index < u64::from(pool.count()) {
+        pool.tag(index as u32)
+    } else {
+        0
+    }
+}
+
+/// The index of the entry that an instruction names.
+fn index_named(pool: &Pool, instr: &RawInstr) -> u32
+    requires { tag_named pool.now instr.now ≢ 0 }
+    ensures { result ≡ operand_at instr.now 0 }
+{
+    let index = operand(instr, 0);
+    let inside = index < u64::from(pool.count());
+    prove!(inside);
+    index as u32
+}
+
+/// The name of the class that an instruction names.
+pub(crate) fn class_named<'a>(pool: &'a Pool, instr: &RawInstr) -> &'a [u8]
+    requires { tag_named pool.now instr.now ≡ 7 }
+    ensures { result.now ≡ class_in pool.now instr.now }
+{
+    pool.class_name(index_named(pool, instr))
+}
+
+/// The member that an instruction names.
+pub(crate) fn member_named(
+    alloc: Global,
+    pool: &Pool,
+    instr: &RawInstr,
+) -> Result<MemberRef, Memory>
+    requires { IsTrue (is_member_tag (tag_named pool.now instr.now)) }
+    ensures { IfOk result (λ member. member ≡ member_in pool.now instr.now) }
+{
+    let named = pool.member(index_named(pool, instr));
+    let class = Name::of(alloc, named.class)?;
+    let name = Name::of(alloc, named.name)?;
+    let desc = Name::of(alloc, named.desc)?;
+    Ok(MemberRef { class, name, desc })
+}

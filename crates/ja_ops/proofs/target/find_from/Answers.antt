@@ -1,8 +1,0 @@
-use Rattle.ja_ops.specs.Targets.{in_program, in_library}
-use Rattle.ja_ops.proofs.target.find_from.Goals as goal
-
-pub returns-in-Some : goal.returns-in-Some
-returns-in-Some c = in_program c.in-Some.ensures.some c.find_method.ensures
-
-pub returns-in-None : goal.returns-in-None
-returns-in-None c = in_library c.in-None.ensures.none

@@ -1,8 +1,0 @@
-pub mod FirstSeen
-pub mod Ascending
-pub mod Inside
-mod Steps
-mod Outline
-mod Absorbing
-pub mod Found
-pub mod Whole

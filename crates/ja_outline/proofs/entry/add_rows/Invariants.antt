@@ -1,5 +1,0 @@
-use Rattle.ja_outline.specs.Entries.{RowsAdd}
-use Rattle.ja_outline.proofs.entry.add_rows.Given as goal
-
-abbrev pub invariant-loop-row : goal.invariant-loop-row
-invariant-loop-row l = RowsAdd l.hier l.rows l.class.0 l.head l.initial.entries l.row-index l.entries

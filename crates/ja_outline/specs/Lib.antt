@@ -1,5 +1,0 @@
-pub mod Signatures
-pub mod Classes
-pub mod Fields
-pub mod Entries
-pub mod Supers

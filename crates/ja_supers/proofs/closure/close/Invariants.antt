@@ -1,5 +1,0 @@
-use Rattle.ja_supers.proofs.Ways.{Shows}
-use Rattle.ja_supers.proofs.closure.close.Given as goal
-
-abbrev pub invariant-loop-middle : goal.invariant-loop-middle
-invariant-loop-middle l = Shows l.heads l.middle l.rows

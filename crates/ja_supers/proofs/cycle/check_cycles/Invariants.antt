@@ -1,6 +1,0 @@
-use Rattle.std.proofs.Common.{ℕ, ◌<◌}
-use Rattle.ja_supers.specs.Faults.{IsCyclic}
-use Rattle.ja_supers.proofs.cycle.check_cycles.Given as goal
-
-abbrev pub invariant-loop-class : goal.invariant-loop-class
-invariant-loop-class l = (b : ℕ) → b < l.class → IsCyclic l.heads b → ⊥

@@ -1,6 +1,0 @@
-use Rattle.std.proofs.Common.{take}
-use Rattle.ja_supers.specs.Rows.{IsSetOf}
-use Rattle.ja_supers.proofs.direct.set_of.Given as goal
-
-abbrev pub invariant-loop-place : goal.invariant-loop-place
-invariant-loop-place l = IsSetOf (take l.place-index l.places) l.len l.set

@@ -1,6 +1,0 @@
-use Rattle.std.proofs.Common.{◌≡◌, false, take}
-use Rattle.ja_supers.specs.Foreign.{is_raised}
-use Rattle.ja_supers.proofs.foreign.is_raised.Given as goal
-
-abbrev pub invariant-loop-above : goal.invariant-loop-above
-invariant-loop-above l = is_raised l.own (take l.above-index l.supers) ≡ false

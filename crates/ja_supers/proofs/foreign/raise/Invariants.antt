@@ -1,6 +1,0 @@
-use Rattle.std.proofs.Common.{take}
-use Rattle.ja_supers.specs.Foreign.{AreRaised}
-use Rattle.ja_supers.proofs.foreign.raise.Given as goal
-
-abbrev pub invariant-loop-class : goal.invariant-loop-class
-invariant-loop-class l = AreRaised l.own (take l.class l.supers) l.flags

@@ -1,6 +1,0 @@
-use Rattle.std.proofs.Common.{take}
-use Rattle.ja_supers.specs.Rows.{AreGathered}
-use Rattle.ja_supers.proofs.gather.gather.Given as goal
-
-abbrev pub invariant-loop-class : goal.invariant-loop-class
-invariant-loop-class l = AreGathered l.own (take l.class l.supers) l.len l.sets.items

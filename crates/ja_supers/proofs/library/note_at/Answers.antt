@@ -1,8 +1,0 @@
-use Rattle.std.proofs.Common.{arith}
-use Rattle.ja_supers.proofs.Falls.{direct-target}
-use Rattle.ja_supers.proofs.library.note_at.Goals as goal
-
-pub note_class-requires-clause-above : goal.note_class-requires-clause-above
-note_class-requires-clause-above c = λ d up.
-    c.requires.below d (direct-target c.args.tables.now.heads c.args.class d up)
-    (omega (arith, c.requires.indexed.falling c.args.class d up, c.supertype_count.ensures))

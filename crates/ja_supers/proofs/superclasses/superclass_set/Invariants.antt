@@ -1,9 +1,0 @@
-use Rattle.ja_supers.proofs.Climbs.{Gathers}
-use Rattle.ja_supers.proofs.Ranks.{height_of}
-use Rattle.ja_supers.proofs.superclasses.superclass_set.Given as goal
-
-abbrev pub invariant-loop-at : goal.invariant-loop-at
-invariant-loop-at l = Gathers l.heads l.class l.at l.set
-
-abbrev pub decreases-loop-at : goal.decreases-loop-at
-decreases-loop-at l = height_of l.heads l.at

@@ -1,9 +1,0 @@
-use Rattle.ja_supers.proofs.Climbs.{Stands}
-use Rattle.ja_supers.proofs.Ranks.{rank_of}
-use Rattle.ja_supers.proofs.superclasses.top_of.Given as goal
-
-abbrev pub invariant-loop-top : goal.invariant-loop-top
-invariant-loop-top l = Stands l.heads l.class l.top
-
-abbrev pub decreases-loop-top : goal.decreases-loop-top
-decreases-loop-top l = rank_of l.heads l.top

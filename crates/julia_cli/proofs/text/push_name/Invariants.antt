@@ -1,7 +1,0 @@
-use Rattle.std.proofs.Common.{◌≡◌, ◌++◌, drop}
-use Rattle.julia_cli.specs.Text.{printed}
-use Rattle.julia_cli.proofs.text.push_name.Given as goal
-
--- what is written, and what is left to print, are the text and the name
-abbrev pub invariant-loop-byte : goal.invariant-loop-byte
-invariant-loop-byte l = l.out.items ++ printed (drop l.byte-index l.name) ≡ l.fn.out.items ++ printed l.name
