@@ -5,10 +5,9 @@ use Rattle.std.specs.List.{AllByRecursion}
 use Rattle.std.proofs.lemmas.Bool.{true_from_ne_false, false_from_ne_true}
 use Rattle.ja_bytes.specs.DescriptorText.{IsFieldDesc, IsMethodText}
 use Rattle.ja_bytes.proofs.Exact.{field_or_wrong, method_or_wrong}
-use Rattle.ja_code.specs.declared.opcode.Form.{Form}
-use Rattle.ja_code.specs.declared.opcode.Form.TheVariants as forms
-use Rattle.ja_code.specs.Opcode.{form_at}
-use Rattle.ja_code.specs.Grammar.{is_refused}
+use Rattle.ja_code.specs.declared.form.Form.{Form}
+use Rattle.ja_code.specs.declared.form.Form.TheVariants as forms
+use Rattle.ja_code.specs.Opcode.{form_at, is_refused}
 use Rattle.ja_listing.specs.declared.number.Number.{Number}
 use Rattle.ja_listing.specs.declared.item.Frame.{Frame}
 use Rattle.ja_listing.specs.declared.item.Operand.{Operand}

@@ -4,13 +4,13 @@ use Rattle.std.specs.Prelude.{IsTrue}
 use Rattle.std.specs.List.{take_while}
 use Rattle.std.proofs.lemmas.Bool.{and_parts, leb-true, not-false, false_from_ne_true, true_from_ne_false, false≢true}
 use Rattle.std.proofs.lemmas.List.Sums.{take_while-cons}
-use Rattle.ja_code.specs.declared.opcode.Entry.{Entry}
-use Rattle.ja_code.specs.declared.opcode.Entry.TheVariants as entry_kinds
-use Rattle.ja_code.specs.declared.opcode.Form.{Form}
-use Rattle.ja_code.specs.declared.opcode.Form.TheVariants as forms
-use Rattle.ja_code.specs.Opcode.{form_at}
+use Rattle.ja_code.specs.declared.form.Entry.{Entry}
+use Rattle.ja_code.specs.declared.form.Entry.TheVariants as entry_kinds
+use Rattle.ja_code.specs.declared.form.Form.{Form}
+use Rattle.ja_code.specs.declared.form.Form.TheVariants as forms
+use Rattle.ja_code.specs.Opcode.{form_at, is_refused}
 use Rattle.ja_code.specs.Bytes.{u2, u4, near, far, names}
-use Rattle.ja_code.specs.Grammar.{is_refused, Takes, Names, narrow, IsInstr}
+use Rattle.ja_code.specs.Grammar.{Takes, Names, narrow, IsInstr}
 use Rattle.ja_pool.specs.Table.{Table, tag_at, tags_of, dims_of, is_bracket}
 use Rattle.ja_listing.specs.declared.number.Number.{Number}
 use Rattle.ja_listing.specs.declared.item.MemberName.{MemberName}

@@ -4,9 +4,9 @@ use Rattle.std.specs.Prelude.{◌==◌}
 use Rattle.std.specs.List.{list_all, AllByRecursion}
 use Rattle.std.proofs.lemmas.Bool.{and_from, or_left, or_right, lt-ltb, eq-eqb, false≢true}
 use Rattle.std.proofs.lemmas.List.{length-append}
-use Rattle.ja_code.specs.declared.opcode.Entry.TheVariants as entry_kinds
-use Rattle.ja_code.specs.declared.opcode.Form.{Form}
-use Rattle.ja_code.specs.declared.opcode.Form.TheVariants as forms
+use Rattle.ja_code.specs.declared.form.Entry.TheVariants as entry_kinds
+use Rattle.ja_code.specs.declared.form.Form.{Form}
+use Rattle.ja_code.specs.declared.form.Form.TheVariants as forms
 use Rattle.ja_code.specs.declared.instr.RawInstr.{RawInstr}
 use Rattle.ja_code.specs.Opcode.{form_at}
 use Rattle.ja_code.specs.Bytes.{names}

@@ -2,8 +2,8 @@
 use Rattle.std.specs.Prelude.{ℕ, ◌+◌, ◌-◌, ◌%◌, ◌^◌, List, [], ◌∷◌, ◌++◌, length, map, codes, bytes_eq, Option, Some, None}
 use Rattle.std.specs.Int.{w16, w32, to_be_bytes}
 use Rattle.std.specs.List.{position}
-use Rattle.ja_code.specs.declared.opcode.Form.{Form}
-use Rattle.ja_code.specs.declared.opcode.Form.TheVariants as forms
+use Rattle.ja_code.specs.declared.form.Form.{Form}
+use Rattle.ja_code.specs.declared.form.Form.TheVariants as forms
 use Rattle.ja_code.specs.declared.handler.RawHandler.{RawHandler}
 use Rattle.ja_code.specs.Opcode.{form_at}
 use Rattle.ja_pool.specs.Entry.{Entry, utf8, single, pair}

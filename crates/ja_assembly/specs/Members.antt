@@ -2,7 +2,8 @@
 -- 4.6, 4.7.3). Nothing here speaks of bytes or of the constant pool.
 use Rattle.std.specs.Prelude.{ℕ, ◌+◌, ◌-◌, ◌%◌, ◌^◌, Bool, false, not, ◌&&◌, ◌||◌, List, [], ◌∷◌, Option, Some, None, bytes_eq, codes, nat_lt, ◌==◌, if◌then◌else◌}
 use Rattle.std.specs.List.{flat_map}
-use Rattle.ja_code.specs.declared.opcode.Form.{Form}
+use Rattle.ja_code.specs.Number.{aload_0, invokespecial, return}
+use Rattle.ja_code.specs.declared.form.Form.{Form}
 use Rattle.ja_code.specs.Opcode.{form_at}
 use Rattle.ja_code.specs.Faults.{front_size}
 use Rattle.ja_listing.specs.declared.number.Number.{Number}
@@ -65,10 +66,10 @@ abbrev pub initializer_head : Item
 initializer_head = Method (plain_number 1) (codes "<init>") (codes "()V") (Some (record { stack = plain_number 1; locals = plain_number 1 }))
 
 abbrev pub initializer_call : List ℕ → Item
-initializer_call superclass = instruction 183 (MethodName (record { class = superclass; name = codes "<init>"; desc = codes "()V" }))
+initializer_call superclass = instruction invokespecial (MethodName (record { class = superclass; name = codes "<init>"; desc = codes "()V" }))
 
 abbrev pub initializer : List ℕ → List Item
-initializer superclass = initializer_head ∷ instruction 42 Nothing ∷ initializer_call superclass ∷ instruction 177 Nothing ∷ []
+initializer superclass = initializer_head ∷ instruction aload_0 Nothing ∷ initializer_call superclass ∷ instruction return Nothing ∷ []
 
 -- what an item stands for
 abbrev pub expanded : List ℕ → Item → List Item

@@ -3,8 +3,7 @@
 use Rattle.std.specs.Prelude.{◌≡◌, ℕ, ◌+◌, ◌<◌, ◌≤◌, ◌^◌, Bool, true, false, List, [], ◌∷◌, length, slice_get, slice_index, codes, Option, Some, None, ◌⊎◌}
 use Rattle.std.specs.List.{AllByRecursion}
 use Rattle.ja_bytes.specs.DescriptorText.{IsFieldDesc, IsMethodText}
-use Rattle.ja_code.specs.Opcode.{form_at}
-use Rattle.ja_code.specs.Grammar.{is_refused}
+use Rattle.ja_code.specs.Opcode.{form_at, is_refused}
 use Rattle.ja_pool.specs.Table.{Table, tag_at, text_at, dims_of, brackets_of}
 use Rattle.ja_listing.specs.declared.item.MemberName.{MemberName}
 use Rattle.ja_listing.specs.declared.item.Frame.{Frame}

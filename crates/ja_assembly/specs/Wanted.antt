@@ -1,8 +1,8 @@
 -- What a class asks of its constant pool (JVM specification 4.4).
 use Rattle.std.specs.Prelude.{ℕ, ◌+◌, Bool, List, [], ◌∷◌, ◌++◌, length, fold, Option, Some, None, bytes_eq, codes, if◌then◌else◌}
 use Rattle.std.specs.List.{flat_map, list_any}
-use Rattle.ja_code.specs.declared.opcode.Form.{Form}
-use Rattle.ja_code.specs.declared.opcode.Form.TheVariants as forms
+use Rattle.ja_code.specs.declared.form.Form.{Form}
+use Rattle.ja_code.specs.declared.form.Form.TheVariants as forms
 use Rattle.ja_code.specs.Opcode.{form_at}
 use Rattle.ja_listing.specs.declared.item.MemberName.{MemberName}
 use Rattle.ja_listing.specs.declared.item.Head.{Head}

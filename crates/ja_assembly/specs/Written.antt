@@ -1,7 +1,7 @@
 -- What the class file of a listed class is to say (JVM specification 4.1, 4.5, 4.6, 4.7.3), and the order of its pool.
 use Rattle.std.specs.Prelude.{◌≡◌, ℕ, ◌+◌, Bool, true, false, List, [], ◌∷◌, codes, slice_get, Option, Some, None}
-use Rattle.ja_code.specs.declared.opcode.Form.{Form}
-use Rattle.ja_code.specs.declared.opcode.Form.TheVariants as forms
+use Rattle.ja_code.specs.declared.form.Form.{Form}
+use Rattle.ja_code.specs.declared.form.Form.TheVariants as forms
 use Rattle.ja_code.specs.declared.instr.RawInstr.{RawInstr}
 use Rattle.ja_code.specs.declared.handler.RawHandler.{RawHandler}
 use Rattle.ja_code.specs.declared.code.Code.{Code}

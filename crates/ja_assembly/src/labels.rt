@@ -1,40 +1,21 @@
 //! Where the labels of a method stand.
 
 ghost use Rattle.std.specs.Prelude.{◌≡◌, ◌+◌, ◌≤◌, [], ◌∷◌, ℕ, List, IfOk, OnOk, MatchOption};
-ghost use Rattle.ja_code.specs.Faults.{front_size};
 ghost use Rattle.ja_assembly.specs.Members.{size_of_opcode, place_of_label, instructions_in};
 ghost use Rattle.ja_assembly.specs.Labels.{places, or_else, has_given};
 
 use indexmap::IndexMap;
 use ja_base::{Memory, Name};
-use ja_code::{Form, form_of};
+use ja_code::Opcode;
 use ja_listing::Item;
 use std::alloc::Global;
 
-/// The number of bytes of an instruction of this form, and of a switch without its table at the place 0.
-fn size_of_form(form: Form) -> u64
-    ensures { result ≡ front_size form 0 }
-{
-    match form {
-        Form::Plain => 1,
-        Form::Byte | Form::Local | Form::ByteIndex | Form::ArrayType | Form::Wide => 2,
-        Form::Short | Form::Increment | Form::Index(_) | Form::Branch => 3,
-        Form::Dimensions => 4,
-        Form::Interface | Form::Dynamic | Form::FarBranch => 5,
-        Form::TableSwitch => 16,
-        Form::LookupSwitch => 12,
-    }
-}
-
-/// The number of bytes of an instruction.
-pub fn size_of(opcode: u8) -> u64
+/// The number of bytes of an instruction, and of a switch without its table at the place 0.
+pub fn size_of(opcode: Opcode) -> u64
     ensures size { result ≡ size_of_opcode opcode }
     ensures most { result ≤ 16 }
 {
-    match form_of(opcode) {
-        Some(form) => size_of_form(form),
-        None => 0,
-    }
+    opcode.form().front_len(0) as u64
 }
 
 /// The first item and those behind it.

@@ -1,6 +1,7 @@
 -- Instructions of the first form (JVM specification, 6.5): how they are spelled, and what they do.
 use Rattle.std.specs.Prelude.{◌≡◌, ℕ, ◌+◌, ◌^◌, ◌<◌, ◌≤◌, ◌⊎◌, List, [], ◌∷◌, length, Some}
 use Rattle.std.specs.Int.{w16, to_be_bytes}
+use Rattle.ja_code.specs.Number as number
 use Rattle.ja_class.specs.Pool.{PoolEntry, String, Methodref, entry_at, IsSource, IsSink}
 use Rattle.ja_class.specs.declared.first.FirstOp.{FirstOp}
 use Rattle.ja_class.specs.declared.first.FirstOp.TheVariants.{Load, Store, Text, Pop, Source, Sink, Return}
@@ -19,14 +20,14 @@ pub data Instruction : Type 0 where
 
 -- the bytes of an instruction
 abbrev pub bytes_of : Instruction → List ℕ
-bytes_of (aload local) = 25 ∷ local ∷ []
-bytes_of (aload_n local) = (42 + local) ∷ []
-bytes_of (astore local) = 58 ∷ local ∷ []
-bytes_of (astore_n local) = (75 + local) ∷ []
-bytes_of (ldc index) = 18 ∷ index ∷ []
-bytes_of pop = 87 ∷ []
-bytes_of (invokestatic index) = 184 ∷ to_be_bytes w16 index
-bytes_of return = 177 ∷ []
+bytes_of (aload local) = number.aload ∷ local ∷ []
+bytes_of (aload_n local) = (number.aload_0 + local) ∷ []
+bytes_of (astore local) = number.astore ∷ local ∷ []
+bytes_of (astore_n local) = (number.astore_0 + local) ∷ []
+bytes_of (ldc index) = number.ldc ∷ index ∷ []
+bytes_of pop = number.pop ∷ []
+bytes_of (invokestatic index) = number.invokestatic ∷ to_be_bytes w16 index
+bytes_of return = number.return ∷ []
 
 -- an instruction's operand fits its field, and names an entry that it must; the instruction does this operation
 abbrev pub Does : List PoolEntry → Instruction → FirstOp → Type 0

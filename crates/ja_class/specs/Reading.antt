@@ -3,6 +3,7 @@
 use Rattle.std.specs.Prelude.{◌≡◌, ℕ, zero, suc, ◌+◌, ◌-◌, Bool, true, false, ◌&&◌, List, [], ◌∷◌, length, take, drop, Option, Some, None, Result, Ok, Err, nat_lt, nat_le, nat_eq, is_some, not, bytes_eq, bit_and, codes, slice_index_or, slice_set, ◌==◌, if◌then◌else◌}
 use Rattle.std.specs.Int.{Width, w16, w32, byte_len, from_be_bytes}
 use Rattle.std.specs.List.{list_all, starts_with}
+use Rattle.ja_code.specs.Number.{ldc, aload, aload_0, aload_3, astore, astore_0, astore_3, pop, return, invokestatic}
 use Rattle.ja_class.specs.declared.first.FirstOp.{FirstOp}
 use Rattle.ja_class.specs.declared.first.FirstOp.TheVariants as op
 use Rattle.ja_class.specs.declared.first.FirstInstr.{FirstInstr}
@@ -259,21 +260,21 @@ byte_at (b ∷ bytes) = Some (b, bytes)
 -- the operation behind its opcode, and the code after it
 unfoldable pub operation_at : List PoolEntry → ℕ → List ℕ → Option (FirstOp × List ℕ)
 operation_at pool opcode code =
-    if opcode == 18 then (do
+    if opcode == ldc then (do
       index ← byte_at code
       text ← constant_at pool index.0
       Some (text, index.1))
-    else if opcode == 25 then (do
+    else if opcode == aload then (do
       local ← byte_at code
       Some (op.Load local.0, local.1))
-    else if nat_le 42 opcode && nat_le opcode 45 then Some (op.Load (opcode - 42), code)
-    else if opcode == 58 then (do
+    else if nat_le aload_0 opcode && nat_le opcode aload_3 then Some (op.Load (opcode - aload_0), code)
+    else if opcode == astore then (do
       local ← byte_at code
       Some (op.Store local.0, local.1))
-    else if nat_le 75 opcode && nat_le opcode 78 then Some (op.Store (opcode - 75), code)
-    else if opcode == 87 then Some (op.Pop, code)
-    else if opcode == 177 then Some (op.Return, code)
-    else if opcode == 184 then (do
+    else if nat_le astore_0 opcode && nat_le opcode astore_3 then Some (op.Store (opcode - astore_0), code)
+    else if opcode == pop then Some (op.Pop, code)
+    else if opcode == return then Some (op.Return, code)
+    else if opcode == invokestatic then (do
       index ← number_at w16 code
       call ← call_at pool index.0
       Some (call, index.1))

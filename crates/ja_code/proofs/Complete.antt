@@ -3,15 +3,15 @@ use Rattle.std.proofs.Common.{◌≡◌, ℕ, ◌+◌, ◌-◌, ◌*◌, ◌≤�
 use Rattle.std.proofs.lemmas.Bool.{lt-ltb, le-ltb, le-leb, and_from, or_parts, not_from_true}
 use Rattle.std.proofs.lemmas.List.{length-append, get_or-append-add, get_or_append_left}
 use Rattle.std.proofs.lemmas.Bool.Decides.{nat_tests}
-use Rattle.ja_code.specs.declared.opcode.Entry.{Entry}
-use Rattle.ja_code.specs.declared.opcode.Entry.TheVariants.{Loadable, InterfaceMethod, Class}
-use Rattle.ja_code.specs.declared.opcode.Form.{Form}
-use Rattle.ja_code.specs.declared.opcode.Form.TheVariants.{Plain, Byte, Short, Local, Increment, ByteIndex, Index, Interface, ArrayType, Dimensions, Branch, FarBranch, TableSwitch, LookupSwitch, Wide}
+use Rattle.ja_code.specs.declared.form.Entry.{Entry}
+use Rattle.ja_code.specs.declared.form.Entry.TheVariants.{Loadable, InterfaceMethod, Class}
+use Rattle.ja_code.specs.declared.form.Form.{Form}
+use Rattle.ja_code.specs.declared.form.Form.TheVariants.{Plain, Byte, Short, Local, Increment, ByteIndex, Index, Interface, ArrayType, Dimensions, Branch, FarBranch, TableSwitch, LookupSwitch, Wide}
 use Rattle.ja_code.specs.declared.instr.RawInstr.{RawInstr}
 use Rattle.ja_code.specs.declared.fault.CodeFault.{CodeFault}
-use Rattle.ja_code.specs.Opcode.{form_at}
+use Rattle.ja_code.specs.Opcode.{form_at, is_refused}
 use Rattle.ja_code.specs.Bytes.{u2, u4_at, far, places, rank, padding, tag_at, names}
-use Rattle.ja_code.specs.Grammar.{is_refused, Takes, narrow, widened, IsInstr}
+use Rattle.ja_code.specs.Grammar.{Takes, narrow, widened, IsInstr}
 use Rattle.ja_code.specs.Faults.{Check, first_failing, has, right, unless, is_handle, front_size, size_at, least_key, greatest_key, pair_count, can_widen, wide_size, index_checks, operand_checks, instr_checks}
 use Rattle.ja_code.specs.Reading.{wide_operands, operands_at, instr_of, instr_at}
 use Rattle.ja_code.proofs.Pieces.{places_same, u4_same}

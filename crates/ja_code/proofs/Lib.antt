@@ -1,4 +1,4 @@
-pub mod Table
+pub mod Rows
 pub mod Places
 pub mod Passing
 pub mod Pieces

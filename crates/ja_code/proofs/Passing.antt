@@ -1,10 +1,13 @@
 -- What checks that pass say.
-use Rattle.std.proofs.Common.{◌≡◌, ℕ, ◌≤◌, ◌<◌, Bool, true, false, cond, ltb, leb, eqb, List, [], ◌∷◌, length, Option, Some, None, refl, arith, slice_index}
+use Rattle.std.proofs.Common.{◌≡◌, ℕ, ◌≤◌, ◌<◌, Bool, true, false, not, cond, ltb, leb, eqb, List, [], ◌∷◌, length, Option, Some, None, refl, arith, slice_index}
 use Rattle.std.proofs.lemmas.Bool.{ltb-false}
-use Rattle.ja_code.specs.declared.opcode.Form.{Form}
-use Rattle.ja_code.specs.declared.opcode.Form.TheVariants.{Increment, TableSwitch, LookupSwitch, Wide}
+use Rattle.ja_code.specs.declared.form.Form.{Form}
+use Rattle.ja_code.specs.declared.form.Form.TheVariants.{Increment, TableSwitch, LookupSwitch, Wide}
 use Rattle.ja_code.specs.declared.fault.CodeFault.{CodeFault}
+use Rattle.ja_code.specs.Number.{ret}
 use Rattle.ja_code.specs.Opcode.{form_at}
+use Rattle.ja_code.specs.Reading.{opcode_at}
+use Rattle.ja_code.proofs.Rows.{has_form}
 use Rattle.ja_code.specs.Faults.{Check, first_failing, has, right, unless, front_size, size_at, least_key, greatest_key, pair_count, can_widen, wide_size, operand_checks}
 
 -- a check that passes, and those behind it
@@ -32,9 +35,25 @@ size_there LookupSwitch tags dims pc bytes front e =
 size_there Wide tags dims pc bytes front e =
     let there = has pc bytes (size_at Wide pc bytes) in
     let widens = right pc (can_widen (form_at (slice_index bytes 1))) in
-    let a = pass (unless pc (slice_index bytes 0) (eqb (slice_index bytes 1) 169)) (widens ∷ there ∷ []) e in
+    let a = pass (unless pc (slice_index bytes 0) (eqb (slice_index bytes 1) ret)) (widens ∷ there ∷ []) e in
     has_there pc bytes (size_at Wide pc bytes) [] (pass widens (there ∷ []) a.1).1
 size_there form tags dims pc bytes front e = front
+
+-- what can be widened is an opcode
+widened_below : (op : ℕ) (o : Option Form) → form_at op ≡ o → not (can_widen o) ≡ false → op < 202
+widened_below op None e h = absurd cc
+widened_below op (Some form) e h = has_form op form e
+
+-- what passes has an opcode
+pub opcode_there : (form : Form) (tags dims : List ℕ) (pc : ℕ) (bytes : List ℕ) → form_at (slice_index bytes 0) ≡ Some form
+    → first_failing (operand_checks form tags dims pc bytes) ≡ None → opcode_at form bytes < 202
+unfolding operand_checks
+opcode_there Wide tags dims pc bytes at e =
+    let there = has pc bytes (size_at Wide pc bytes) in
+    let widens = right pc (can_widen (form_at (slice_index bytes 1))) in
+    let a = pass (unless pc (slice_index bytes 0) (eqb (slice_index bytes 1) ret)) (widens ∷ there ∷ []) e in
+    widened_below (slice_index bytes 1) (form_at (slice_index bytes 1)) refl (pass widens (there ∷ []) a.1).0
+opcode_there form tags dims pc bytes at e = has_form (slice_index bytes 0) form at
 
 -- an instruction has a byte
 pub size_some : (form : Form) (pc : ℕ) (bytes : List ℕ) → 0 < size_at form pc bytes

@@ -2,13 +2,13 @@
 use Rattle.std.proofs.Common.{◌≡◌, ℕ, suc, ◌+◌, ◌-◌, ◌*◌, ◌≤◌, ◌<◌, Bool, true, false, ◌&&◌, ltb, leb, eqb, List, [], ◌∷◌, ◌++◌, length, take, drop, Option, Some, None, refl, sym, ap, subst, ◌∙◌, arith, slice_index}
 use Rattle.std.proofs.lemmas.Bool.{ltb-true, leb-true, eqb-true, not-false, and_parts, or_from, both_ways, false_from_ne_true}
 use Rattle.std.proofs.lemmas.Bool.Decides.{nat_tests}
-use Rattle.ja_code.specs.declared.opcode.Entry.{Entry}
-use Rattle.ja_code.specs.declared.opcode.Entry.TheVariants.{Loadable, InterfaceMethod, Class}
-use Rattle.ja_code.specs.declared.opcode.Form.{Form}
-use Rattle.ja_code.specs.declared.opcode.Form.TheVariants.{Plain, Byte, Short, Local, Increment, ByteIndex, Index, Interface, Dynamic, ArrayType, Dimensions, Branch, FarBranch, TableSwitch, LookupSwitch, Wide}
-use Rattle.ja_code.specs.Opcode.{form_at}
+use Rattle.ja_code.specs.declared.form.Entry.{Entry}
+use Rattle.ja_code.specs.declared.form.Entry.TheVariants.{Loadable, InterfaceMethod, Class}
+use Rattle.ja_code.specs.declared.form.Form.{Form}
+use Rattle.ja_code.specs.declared.form.Form.TheVariants.{Plain, Byte, Short, Local, Increment, ByteIndex, Index, Interface, Dynamic, ArrayType, Dimensions, Branch, FarBranch, TableSwitch, LookupSwitch, Wide}
+use Rattle.ja_code.specs.Opcode.{form_at, is_refused}
 use Rattle.ja_code.specs.Bytes.{u2_at, u4_at, near, far, places, rank, padding, tag_at, names}
-use Rattle.ja_code.specs.Grammar.{is_refused, Takes, Names, narrow, widened, IsInstr}
+use Rattle.ja_code.specs.Grammar.{Takes, Names, narrow, widened, IsInstr}
 use Rattle.ja_code.specs.Faults.{Check, first_failing, has, right, unless, is_handle, front_size, size_at, least_key, greatest_key, pair_count, can_widen, wide_size, index_checks, opcode_checks, operand_checks, instr_checks}
 use Rattle.ja_code.specs.Reading.{wide_operands, operands_at, instr_of, instr_with, instr_at}
 use Rattle.ja_code.proofs.Pieces.{places_same, piece_at, piece_length, piece_number, table_text, lookup_text}

@@ -1,7 +1,7 @@
 -- Numbers in the bytes of an instruction, and what they stand for.
 use Rattle.std.specs.Prelude.{ℕ, zero, suc, ◌+◌, ◌-◌, ◌*◌, ◌%◌, List, [], ◌∷◌, Bool, slice_index, nat_lt, ◌==◌, ◌||◌, if◌then◌else◌}
-use Rattle.ja_code.specs.declared.opcode.Entry.{Entry}
-use Rattle.ja_code.specs.declared.opcode.Entry.TheVariants.{Loadable, TwoWord, Field, Method, InterfaceMethod, AnyMethod, Class}
+use Rattle.ja_code.specs.declared.form.Entry.{Entry}
+use Rattle.ja_code.specs.declared.form.Entry.TheVariants.{Loadable, TwoWord, Field, Method, InterfaceMethod, AnyMethod, Class}
 
 -- the number that two bytes spell, and that four bytes spell, the high byte first
 abbrev pub u2 : ℕ → ℕ → ℕ

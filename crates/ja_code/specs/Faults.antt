@@ -1,17 +1,18 @@
 -- The order of the checks of a code array: its fault is that of the first check that fails.
 use Rattle.std.specs.Prelude.{◌≡◌, ℕ, ◌+◌, ◌-◌, ◌*◌, ◌<◌, List, [], ◌∷◌, ◌++◌, length, Bool, true, false, not, Option, Some, None, Result, Err, slice_index, nat_lt, nat_le, ◌==◌, ◌||◌, ◌&&◌, if◌then◌else◌}
-use Rattle.ja_code.specs.declared.opcode.Entry.{Entry}
-use Rattle.ja_code.specs.declared.opcode.Entry.TheVariants.{Loadable, InterfaceMethod, Class}
-use Rattle.ja_code.specs.declared.opcode.Form.{Form}
-use Rattle.ja_code.specs.declared.opcode.Form.TheVariants.{Plain, Byte, Short, Local, Increment, ByteIndex, Index, Interface, Dynamic, ArrayType, Dimensions, Branch, FarBranch, TableSwitch, LookupSwitch, Wide}
+use Rattle.ja_code.specs.declared.form.Entry.{Entry}
+use Rattle.ja_code.specs.declared.form.Entry.TheVariants.{Loadable, InterfaceMethod, Class}
+use Rattle.ja_code.specs.declared.form.Form.{Form}
+use Rattle.ja_code.specs.declared.form.Form.TheVariants.{Plain, Byte, Short, Local, Increment, ByteIndex, Index, Interface, Dynamic, ArrayType, Dimensions, Branch, FarBranch, TableSwitch, LookupSwitch, Wide}
 use Rattle.ja_code.specs.declared.instr.RawInstr.{RawInstr}
 use Rattle.ja_code.specs.declared.handler.RawHandler.{RawHandler}
 use Rattle.ja_code.specs.declared.code.Code.{Code}
 use Rattle.ja_code.specs.declared.fault.CodeFault.{CodeFault}
 use Rattle.ja_code.specs.declared.fault.CodeFault.TheVariants.{BadOpcode, RefusedOpcode, CodeEnd, BadOperand, BadBranch, BadHandler, Memory}
-use Rattle.ja_code.specs.Opcode.{form_at}
+use Rattle.ja_code.specs.Opcode.{form_at, is_refused}
+use Rattle.ja_code.specs.Number.{ret}
 use Rattle.ja_code.specs.Bytes.{u2_at, u4_at, rank, padding, tag_at, names}
-use Rattle.ja_code.specs.Grammar.{is_refused, AreInstrs, is_start, leads_to_starts, is_handler}
+use Rattle.ja_code.specs.Grammar.{AreInstrs, is_start, leads_to_starts, is_handler}
 
 -- a check: whether it fails, and the fault that it then is
 pub record Check : Type 0 where
@@ -115,7 +116,7 @@ lookup_checks pc bytes =
 -- the checks of wide: before ret it is refused, the opcode behind it has a wide form, and its operands are there
 abbrev pub wide_checks : ℕ → List ℕ → List Check
 wide_checks pc bytes =
-    unless pc (slice_index bytes 0) (slice_index bytes 1 == 169) ∷ right pc (can_widen (form_at (slice_index bytes 1)))
+    unless pc (slice_index bytes 0) (slice_index bytes 1 == ret) ∷ right pc (can_widen (form_at (slice_index bytes 1)))
     ∷ has pc bytes (size_at Wide pc bytes) ∷ []
 
 -- The checks of the operands of an instruction at pc, by its form, where the bytes that the form asks for are there. The

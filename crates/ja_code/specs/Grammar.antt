@@ -1,19 +1,15 @@
 -- The code arrays that the analyser takes, and what they spell (JVM specification 4.9.1, 6.5 and 4.7.3).
 use Rattle.std.specs.Prelude.{◌≡◌, ℕ, ◌+◌, ◌*◌, ◌<◌, ◌≤◌, List, [], ◌∷◌, ◌++◌, length, Bool, true, false, IsTrue, Option, Some, slice_index, nat_lt, ◌==◌, ◌||◌, ◌&&◌, if◌then◌else◌}
 use Rattle.std.specs.List.{list_any, list_all}
-use Rattle.ja_code.specs.declared.opcode.Entry.{Entry}
-use Rattle.ja_code.specs.declared.opcode.Entry.TheVariants.{Loadable, InterfaceMethod, Class}
-use Rattle.ja_code.specs.declared.opcode.Form.{Form}
-use Rattle.ja_code.specs.declared.opcode.Form.TheVariants.{Plain, Byte, Short, Local, Increment, ByteIndex, Index, Interface, ArrayType, Dimensions, Branch, FarBranch, TableSwitch, LookupSwitch, Wide}
+use Rattle.ja_code.specs.declared.form.Entry.{Entry}
+use Rattle.ja_code.specs.declared.form.Entry.TheVariants.{Loadable, InterfaceMethod, Class}
+use Rattle.ja_code.specs.declared.form.Form.{Form}
+use Rattle.ja_code.specs.declared.form.Form.TheVariants.{Plain, Byte, Short, Local, Increment, ByteIndex, Index, Interface, ArrayType, Dimensions, Branch, FarBranch, TableSwitch, LookupSwitch, Wide}
 use Rattle.ja_code.specs.declared.instr.RawInstr.{RawInstr}
 use Rattle.ja_code.specs.declared.handler.RawHandler.{RawHandler}
 use Rattle.ja_code.specs.declared.code.Code.{Code}
-use Rattle.ja_code.specs.Opcode.{form_at}
+use Rattle.ja_code.specs.Opcode.{form_at, is_refused}
 use Rattle.ja_code.specs.Bytes.{u2, u4, u4_at, near, far, places, rank, padding, tag_at, names}
-
--- the opcodes that the analyser refuses: jsr, ret, invokedynamic and jsr_w
-abbrev pub is_refused : ℕ → Bool
-is_refused op = op == 168 || op == 169 || op == 186 || op == 201
 
 -- the analyser takes this opcode, and it has this form
 abbrev pub Takes : ℕ → Form → Type 0
@@ -88,6 +84,10 @@ pub data AreInstrs (tags dims : List ℕ) : ℕ → List ℕ → List RawInstr �
   next : {pc : ℕ} (text rest : List ℕ) {i : RawInstr} {is : List RawInstr}
       → IsInstr tags dims pc text i → AreInstrs tags dims (pc + length text) rest is
       → AreInstrs tags dims pc (text ++ rest) (i ∷ is)
+
+-- the operand of an instruction at a place, 0 where it has none there
+abbrev pub operand_at : RawInstr → ℕ → ℕ
+operand_at i place = slice_index i.operands place
 
 -- whether an instruction begins at a place
 abbrev pub is_start : List RawInstr → ℕ → Bool

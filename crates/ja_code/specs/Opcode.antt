@@ -1,8 +1,13 @@
--- The operands that each opcode takes (JVM specification, 6.5).
-use Rattle.std.specs.Prelude.{ℕ, List, [], ◌∷◌, Option, Some, None, nat_le, if◌then◌else◌}
-use Rattle.ja_code.specs.declared.opcode.Entry.TheVariants.{Loadable, TwoWord, Field, Method, AnyMethod, Class}
-use Rattle.ja_code.specs.declared.opcode.Form.{Form}
-use Rattle.ja_code.specs.declared.opcode.Form.TheVariants.{Plain, Byte, Short, Local, Increment, ByteIndex, Index, Interface, Dynamic, ArrayType, Dimensions, Branch, FarBranch, TableSwitch, LookupSwitch, Wide}
+-- The operands that each opcode takes (JVM specification, 6.5), and the opcodes that are refused.
+use Rattle.std.specs.Prelude.{ℕ, List, [], ◌∷◌, Option, Some, None, Bool, nat_le, ◌==◌, ◌||◌, if◌then◌else◌}
+use Rattle.ja_code.specs.Number.{jsr, ret, invokedynamic, jsr_w}
+use Rattle.ja_code.specs.declared.form.Entry.TheVariants.{Loadable, TwoWord, Field, Method, AnyMethod, Class}
+use Rattle.ja_code.specs.declared.form.Form.{Form}
+use Rattle.ja_code.specs.declared.form.Form.TheVariants.{Plain, Byte, Short, Local, Increment, ByteIndex, Index, Interface, Dynamic, ArrayType, Dimensions, Branch, FarBranch, TableSwitch, LookupSwitch, Wide}
+
+-- the opcodes that the analyser refuses: subroutines and dynamic calls
+abbrev pub is_refused : ℕ → Bool
+is_refused op = op == jsr || op == ret || op == invokedynamic || op == jsr_w
 
 -- the last of a run of opcodes, and their form
 pub record Run : Type 0 where

@@ -1,7 +1,7 @@
 -- What the private functions of the decoder answer. A reader of the public contracts need not look here.
 use Rattle.std.specs.Prelude.{◌≡◌, ℕ, ◌+◌, ◌-◌, List, [], ◌∷◌, Bool, true, false, Option, Some, None, Result, Ok, Err, slice_index, slice_index_or, ⊤}
-use Rattle.ja_code.specs.declared.opcode.Form.{Form}
-use Rattle.ja_code.specs.declared.opcode.Form.TheVariants.{Plain, Byte, Short, Local, Increment, ByteIndex, Index, Interface, Dynamic, ArrayType, Dimensions, Branch, FarBranch, TableSwitch, LookupSwitch, Wide}
+use Rattle.ja_code.specs.declared.form.Form.{Form}
+use Rattle.ja_code.specs.declared.form.Form.TheVariants.{Plain, Byte, Short, Local, Increment, ByteIndex, Index, Interface, Dynamic, ArrayType, Dimensions, Branch, FarBranch, TableSwitch, LookupSwitch, Wide}
 use Rattle.ja_code.specs.declared.instr.RawInstr.{RawInstr}
 use Rattle.ja_code.specs.declared.fault.CodeFault.{CodeFault}
 use Rattle.ja_code.specs.declared.fault.CodeFault.TheVariants.{Memory}

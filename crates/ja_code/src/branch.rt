@@ -6,17 +6,14 @@ ghost use Rattle.ja_code.specs.Reading.{marked, Passes};
 
 use crate::fault::CodeFault;
 use crate::instr::RawInstr;
-use crate::opcode::{Form, form_of};
+use crate::opcode::Opcode;
 use crate::start::is_marked;
 
 /// Whether the operands of an opcode are places that it may go to.
-fn is_branch_opcode(opcode: u8) -> bool
+fn is_branch_opcode(opcode: Opcode) -> bool
     ensures { result ≡ is_branch (form_at opcode) }
 {
-    matches!(
-        form_of(opcode),
-        Some(Form::Branch | Form::FarBranch | Form::TableSwitch | Form::LookupSwitch)
-    )
+    opcode.form().is_branch()
 }
 
 /// Whether an instruction branches to starts of instructions alone.

@@ -1,12 +1,14 @@
-ghost use Rattle.std.specs.Prelude.{◌≡◌, ◌+◌, ◌≤◌, length, [], ◌∷◌, slice_index, IfOk};
+ghost use Rattle.std.specs.Prelude.{◌≡◌, ◌+◌, ◌<◌, ◌≤◌, length, [], ◌∷◌, slice_index, IfOk};
 ghost use Rattle.ja_code.specs.Bytes.{tag_at, names};
 ghost use Rattle.ja_code.specs.Opcode.{form_at};
 ghost use Rattle.ja_code.specs.Faults.{first_failing, has, front_size, size_at, index_checks, array_checks, dimension_checks, table_checks, lookup_checks, wide_checks, operand_checks, instr_checks};
-ghost use Rattle.ja_code.specs.Reading.{Passes, Finds};
+ghost use Rattle.ja_code.specs.Reading.{Passes, Finds, opcode_at};
 
 use crate::bytes::{gap, place, u2, u4};
 use crate::fault::CodeFault;
-use crate::opcode::{Entry, Form, RET, form_of, is_refused_opcode};
+use crate::form::{Entry, Form};
+use crate::number::RET;
+use crate::opcode::{form_of, is_refused};
 
 // Tags of the constant pool (JVM specification 4.4).
 const INTEGER: u8 = 3;
@@ -53,21 +55,6 @@ pub(crate) fn tag_of(tags: &[u8], index: u16) -> u8
     tags.get(usize::from(index)).copied().unwrap_or(0)
 }
 
-/// The number of bytes of an instruction at `pc` that its form alone asks for.
-pub(crate) fn front_len(form: Form, pc: u32) -> usize
-    ensures { result ≡ front_size form pc }
-{
-    match form {
-        Form::Plain => 1,
-        Form::Byte | Form::Local | Form::ByteIndex | Form::ArrayType | Form::Wide => 2,
-        Form::Short | Form::Increment | Form::Index(_) | Form::Branch => 3,
-        Form::Dimensions => 4,
-        Form::Interface | Form::Dynamic | Form::FarBranch => 5,
-        Form::TableSwitch => gap(pc) + 13,
-        Form::LookupSwitch => gap(pc) + 9,
-    }
-}
-
 /// The number of bytes of an instruction at `pc`.
 #[tactic(auto, unfolding(crate::specs::Faults::size_at))]
 pub(crate) fn len_of(form: Form, pc: u32, bytes: &[u8]) -> usize
@@ -88,7 +75,7 @@ pub(crate) fn len_of(form: Form, pc: u32, bytes: &[u8]) -> usize
             Some(Form::Increment) => 6,
             _ => 4,
         },
-        _ => front_len(form, pc),
+        _ => form.front_len(pc),
     }
 }
 
@@ -225,15 +212,16 @@ pub(crate) fn checked_form(
     ensures finds { Finds result (first_failing (instr_checks tags.now dims.now pc bytes.now)) (form_at (slice_index bytes.now 0)) }
     ensures front { IfOk result (λ form. front_size form pc ≤ length bytes.now) }
     ensures there { IfOk result (λ form. size_at form pc bytes.now ≤ length bytes.now) }
+    ensures opcode { IfOk result (λ form. opcode_at form bytes.now < 202) }
 {
     let opcode = bytes[0];
     let Some(form) = form_of(opcode) else {
         return Err(CodeFault::BadOpcode { pc, opcode });
     };
-    if is_refused_opcode(opcode) {
+    if is_refused(opcode) {
         return Err(CodeFault::RefusedOpcode { pc, opcode });
     }
-    check_len(pc, bytes, front_len(form, pc))?;
+    check_len(pc, bytes, form.front_len(pc))?;
     check_operands(form, pc, bytes, tags, dims)?;
     Ok(form)
 }

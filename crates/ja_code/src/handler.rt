@@ -5,7 +5,7 @@ ghost use Rattle.ja_code.specs.Reading.{marked, Passes};
 
 use crate::check::{is_named, tag_of};
 use crate::fault::CodeFault;
-use crate::opcode::Entry;
+use crate::form::Entry;
 use crate::start::is_marked;
 use ja_base::Seq;
 

@@ -1,10 +1,12 @@
 ghost use Rattle.std.specs.Prelude.{◌≡◌, ◌<◌, ◌≤◌, ◌^◌, length};
+ghost use Rattle.ja_code.specs.Grammar.{operand_at};
 ghost use Rattle.ja_code.specs.Faults.{first_failing, instr_checks};
 ghost use Rattle.ja_code.specs.Reading.{Gives, instr_at};
 
 use crate::check::{checked_form, len_of};
 use crate::fault::CodeFault;
-use crate::opcode::Form;
+use crate::form::Form;
+use crate::opcode::Opcode;
 use crate::operand::operands_of;
 use ja_base::{Numbers, Seq};
 use std::alloc::Global;
@@ -20,12 +22,25 @@ pub struct RawInstr {
     /// The place of the first byte in the code.
     pub pc: u32,
     /// The opcode, and behind `wide` the one that is widened.
-    pub opcode: u8,
+    pub opcode: Opcode,
     /// Whether `wide` stands before the opcode.
     pub wide: bool,
     pub operands: Numbers,
     /// The number of bytes, with `wide` and padding.
     pub length: u32,
+}
+
+impl RawInstr {
+    /// The operand at a place, 0 where there is none.
+    pub fn operand(&self, place: u64) -> u64
+        ensures { result ≡ operand_at self.now place }
+    {
+        if place < self.operands.len() {
+            *self.operands.at(place)
+        } else {
+            0
+        }
+    }
 }
 
 /// A list of instructions.
@@ -47,9 +62,12 @@ pub(crate) fn instr_at(
     let form = checked_form(pc, bytes, tags, dims)?;
     let operands = operands_of(alloc, form, pc, bytes)?;
     let wide = form == Form::Wide;
+    let Some(opcode) = Opcode::of(if wide { bytes[1] } else { bytes[0] }) else {
+        unreachable!();
+    };
     Ok(RawInstr {
         pc,
-        opcode: if wide { bytes[1] } else { bytes[0] },
+        opcode,
         wide,
         operands,
         length: len_of(form, pc, bytes) as u32,

@@ -5,7 +5,8 @@ ghost use Rattle.ja_code.specs.Faults.{front_size, size_at, wide_size};
 ghost use Rattle.ja_code.specs.Reading.{operands_at, wide_operands};
 
 use crate::bytes::{far_target, gap, near_target, place, u2, u4};
-use crate::opcode::{Form, form_of};
+use crate::form::Form;
+use crate::opcode::form_of;
 use ja_base::{Memory, Numbers};
 use std::alloc::Global;
 

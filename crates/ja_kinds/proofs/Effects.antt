@@ -9,11 +9,13 @@ use Rattle.ja_bytes.specs.Longest.{IsWrongAt}
 use Rattle.ja_bytes.specs.DescriptorText.{IsFieldDesc, IsMethodText}
 use Rattle.ja_pool.specs.Table.{Table, entry_tag, tag_at, member_desc_at, is_member_tag}
 use Rattle.ja_code.specs.declared.instr.RawInstr.{RawInstr}
-use Rattle.ja_kinds.specs.declared.behaviour.Behaviour.{Behaviour}
-use Rattle.ja_kinds.specs.declared.behaviour.Behaviour.TheVariants.{Loaded, GetStatic, PutStatic, GetField, PutField, Invoke, InvokeStatic}
+use Rattle.ja_code.specs.declared.behaviour.Behaviour.{Behaviour}
+use Rattle.ja_code.specs.declared.behaviour.Behaviour.TheVariants.{Loaded, Access, Invoke}
+use Rattle.ja_code.specs.declared.behaviour.FieldAccess.TheVariants.{GetStatic, PutStatic, GetField, PutField}
 use Rattle.ja_kinds.specs.declared.effect.Effect.{Effect}
 use Rattle.ja_kinds.specs.declared.reading.Part.TheVariants.{Nothing, Constant, Field, Method}
-use Rattle.ja_kinds.specs.Effect.{constant_kind, operand_at, kind_of_type, NamesField, NamesMethod, fixed_effect, loaded_effect, field_effect, method_effect, HasEffect, fixed, loaded, field, method}
+use Rattle.ja_kinds.specs.Effect.{constant_kind, kind_of_type, NamesField, NamesMethod, fixed_effect, loaded_effect, field_effect, method_effect, HasEffect, fixed, loaded, field, method}
+use Rattle.ja_code.specs.Grammar.{operand_at}
 use Rattle.ja_kinds.specs.Reading.{part_of, FindsField, FindsMethod, Finds}
 
 -- what an answer is has what it equals
@@ -36,12 +38,8 @@ no_member pool n past =
 module _ (pool : Table) (i : RawInstr) where
   fixed_part : (b : Behaviour) (e : Effect) → fixed_effect i b ≡ Some e → part_of b ≡ Nothing
   fixed_part Loaded e p = absurd cc
-  fixed_part GetStatic e p = absurd cc
-  fixed_part PutStatic e p = absurd cc
-  fixed_part GetField e p = absurd cc
-  fixed_part PutField e p = absurd cc
-  fixed_part Invoke e p = absurd cc
-  fixed_part InvokeStatic e p = absurd cc
+  fixed_part (Access how) e p = absurd cc
+  fixed_part (Invoke how) e p = absurd cc
   fixed_part b e p = refl
 
   loaded_part : (b : Behaviour) (k : Kind) (e : Effect) → loaded_effect b k ≡ Some e → part_of b ≡ Constant
@@ -49,15 +47,14 @@ module _ (pool : Table) (i : RawInstr) where
   loaded_part b k e p = absurd cc
 
   field_part : (b : Behaviour) (k : Kind) (e : Effect) → field_effect b k ≡ Some e → part_of b ≡ Field
-  field_part GetStatic k e p = refl
-  field_part PutStatic k e p = refl
-  field_part GetField k e p = refl
-  field_part PutField k e p = refl
+  field_part (Access GetStatic) k e p = refl
+  field_part (Access PutStatic) k e p = refl
+  field_part (Access GetField) k e p = refl
+  field_part (Access PutField) k e p = refl
   field_part b k e p = absurd cc
 
   method_part : (b : Behaviour) (taken : List Kind) (given : Option Kind) (e : Effect) → method_effect b taken given ≡ Some e → part_of b ≡ Method
-  method_part Invoke taken given e p = refl
-  method_part InvokeStatic taken given e p = refl
+  method_part (Invoke how) taken given e p = refl
   method_part b taken given e p = absurd cc
 
   fixed_lost : (b : Behaviour) → part_of b ≡ Nothing → None ≡ fixed_effect i b → Finds pool i b None
@@ -91,10 +88,10 @@ module _ (pool : Table) (i : RawInstr) where
 
   -- what names a field
   pub field_found : (b : Behaviour) (k : Kind) → part_of b ≡ Field → NamesField pool i k → Finds pool i b (field_effect b k)
-  field_found GetStatic k part n = field n refl
-  field_found PutStatic k part n = field n refl
-  field_found GetField k part n = field n refl
-  field_found PutField k part n = field n refl
+  field_found (Access GetStatic) k part n = field n refl
+  field_found (Access PutStatic) k part n = field n refl
+  field_found (Access GetField) k part n = field n refl
+  field_found (Access PutField) k part n = field n refl
   field_found b k part n = absurd cc
 
   pub field_lost : (b : Behaviour) → part_of b ≡ Field → FindsField pool i None → Finds pool i b None
@@ -106,8 +103,7 @@ module _ (pool : Table) (i : RawInstr) where
   -- what names a method
   pub method_found : (b : Behaviour) (taken : List Kind) (given : Option Kind) → part_of b ≡ Method → NamesMethod pool i taken given
       → Finds pool i b (method_effect b taken given)
-  method_found Invoke taken given part n = method n refl
-  method_found InvokeStatic taken given part n = method n refl
+  method_found (Invoke how) taken given part n = method n refl
   method_found b taken given part n = absurd cc
 
   pub method_lost : (b : Behaviour) → part_of b ≡ Method → FindsMethod pool i None → Finds pool i b None

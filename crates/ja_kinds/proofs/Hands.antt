@@ -6,8 +6,9 @@ use Rattle.ja_kinds.specs.declared.state.State.{State}
 use Rattle.ja_kinds.specs.Frame.{Below}
 use Rattle.ja_code.specs.declared.instr.RawInstr.{RawInstr}
 use Rattle.ja_code.specs.declared.handler.RawHandler.{RawHandler}
-use Rattle.ja_kinds.specs.declared.behaviour.Behaviour.{Behaviour}
-use Rattle.ja_kinds.specs.Effect.{IsOneOf, branches, targets_of}
+use Rattle.ja_code.specs.declared.behaviour.Behaviour.{Behaviour}
+use Rattle.ja_kinds.specs.Effect.{IsOneOf, targets_of}
+use Rattle.ja_code.specs.Behaviour.{branches}
 use Rattle.ja_kinds.specs.Solution.{HandledAt}
 use Rattle.ja_kinds.specs.Merge.{is_below, merge}
 use Rattle.ja_kinds.specs.Solving.{state_at, IsWide, AreWide, room_of, room, Catches, Rises, is_marked, Marks, Hands}

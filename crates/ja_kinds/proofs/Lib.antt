@@ -1,4 +1,3 @@
-mod ByNumber
 mod Stacks
 pub mod Effects
 pub mod Order

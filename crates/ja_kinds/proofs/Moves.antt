@@ -5,9 +5,9 @@ use Rattle.std.proofs.lemmas.List.{append-nil, length-append}
 use Rattle.ja_base.specs.Kind.{words_of}
 use Rattle.ja_base.specs.declared.java_type.Kind.{Kind}
 use Rattle.ja_base.specs.declared.java_type.Kind.TheVariants.{P1, P2, R, T}
-use Rattle.ja_kinds.specs.declared.behaviour.Rearrangement.{Rearrangement}
-use Rattle.ja_kinds.specs.declared.behaviour.Rearrangement.TheVariants.{Pop, Pop2, Dup, DupX1, DupX2, Dup2, Dup2X1, Dup2X2, Swap}
-use Rattle.ja_kinds.specs.Behaviour.{Move, move, moves_of}
+use Rattle.ja_code.specs.declared.behaviour.Rearrangement.{Rearrangement}
+use Rattle.ja_code.specs.declared.behaviour.Rearrangement.TheVariants.{Pop, Pop2, Dup, DupX1, DupX2, Dup2, Dup2X1, Dup2X2, Swap}
+use Rattle.ja_code.specs.Behaviour.{Move, move, moves_of}
 use Rattle.ja_kinds.specs.Frame.{words, top, under}
 use Rattle.ja_kinds.specs.Effect.{IsOneOf, top_words, under_words, moved, block, rearranged_by, rearranged_under, rearranged}
 use Rattle.ja_kinds.specs.Moving.{picked, IsFitting, stack_after, IsMovedTo}

@@ -1,18 +1,17 @@
 -- What each opcode does, beside the operands that it takes.
 use Rattle.std.proofs.Common.{◌≡◌, ℕ, zero, suc, ◌+◌, ◌<◌, inl, inr, Bool, true, false, ◌&&◌, ◌||◌, cond, leb, List, [], ◌∷◌, Option, Some, None, refl, ap, subst, ◌∙◌, zero-add, arith}
 use Rattle.std.proofs.lemmas.Bool.{and_parts, cases_lt, leb-true, lt-leb}
-use Rattle.ja_code.specs.declared.opcode.Entry.TheVariants.{Loadable, Field, Method, InterfaceMethod, AnyMethod}
-use Rattle.ja_code.specs.declared.opcode.Form.{Form}
-use Rattle.ja_code.specs.declared.opcode.Form.TheVariants.{ByteIndex, Index, Interface, Wide}
-use Rattle.ja_code.specs.Opcode.{Run, runs, form_in, form_at}
-use Rattle.ja_code.specs.Grammar.{is_refused, Takes, is_branch}
-use Rattle.ja_kinds.specs.declared.behaviour.Behaviour.{Behaviour}
+use Rattle.ja_code.specs.declared.form.Entry.TheVariants.{Loadable, Field, Method, InterfaceMethod, AnyMethod}
+use Rattle.ja_code.specs.declared.form.Form.{Form}
+use Rattle.ja_code.specs.declared.form.Form.TheVariants.{ByteIndex, Index, Interface, Wide}
+use Rattle.ja_code.specs.Opcode.{Run, runs, form_in, form_at, is_refused}
+use Rattle.ja_code.specs.Grammar.{Takes, is_branch}
+use Rattle.ja_code.specs.declared.behaviour.Behaviour.{Behaviour}
 use Rattle.ja_kinds.specs.declared.reading.Part.{Part}
 use Rattle.ja_kinds.specs.declared.reading.Part.TheVariants as parts
-use Rattle.ja_kinds.specs.Behaviour.{behaviour_at}
-use Rattle.ja_kinds.specs.Effect.{branches}
+use Rattle.ja_code.specs.Behaviour.{behaviour_at, branches}
 use Rattle.ja_kinds.specs.Reading.{part_of}
-use Rattle.ja_kinds.proofs.ByNumber.{past_all as no_behaviour}
+use Rattle.ja_code.proofs.Rows.{no_form, no_behaviour}
 
 -- what of the pool the operands of a form name
 abbrev pub part_named : Form → Part
@@ -93,26 +92,6 @@ each_branch : all_from row_branches 0 202 ≡ true
 unfolding form_at behaviour_at
 each_branch = refl
 
--- no run goes past 201
-abbrev lasts_within : List Run → Bool
-lasts_within [] = true
-lasts_within (r ∷ rs) = leb r.last 201 && lasts_within rs
-
-skipped : (test : Bool) (x y : Option Form) → test ≡ false → y ≡ None → cond test x y ≡ None
-skipped true x y e none = absurd cc
-skipped false x y e none = none
-
-past_runs : (rs : List Run) (op : ℕ) → lasts_within rs ≡ true → 201 < op → form_in rs op ≡ None
-past_runs [] op within above = refl
-past_runs (r ∷ rs) op within above =
-    let parts : (leb r.last 201 ≡ true) × (lasts_within rs ≡ true) = and_parts (leb r.last 201) (lasts_within rs) within in
-    let low : r.last < op = omega (arith, leb-true r.last 201 parts.0) in
-    skipped (leb op r.last) (Some r.form) (form_in rs op) (lt-leb op r.last low) (past_runs rs op parts.1 above)
-
-past_all : (op : ℕ) → 201 < op → form_at op ≡ None
-unfolding form_at
-past_all op above = past_runs runs op refl above
-
 row_at : (op : ℕ) → op < 202 → row_fits op ≡ true
 row_at op below = subst (λ (n : ℕ). row_fits n ≡ true) (zero-add op) (all_at row_fits 0 202 op each_row below)
 
@@ -128,7 +107,7 @@ takes_fits : (op : ℕ) (form : Form) → Takes op form → fits form (behaviour
 takes_fits op form takes = elim (cases_lt op 202) [
   | inl below ↦ taken_fits (is_refused op) (form_at op) (behaviour_at op) form takes.1 takes.0 (row_at op below)
   | inr past ↦
-      let none : form_at op ≡ None = past_all op (omega arith) in
+      let none : form_at op ≡ None = no_form op (omega arith) in
       absurd cc
 ]
 

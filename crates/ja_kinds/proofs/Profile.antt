@@ -7,20 +7,21 @@ use Rattle.ja_base.specs.declared.java_type.Kind.{Kind}
 use Rattle.ja_base.specs.declared.java_type.Kind.TheVariants.{P1, R}
 use Rattle.ja_bytes.specs.DescriptorText.{IsFieldDesc, IsMethodText}
 use Rattle.ja_pool.specs.Table.{Table, entry_tag, tags_of, tag_at, member_desc_at, is_member_tag}
-use Rattle.ja_code.specs.declared.opcode.Entry.{Entry}
-use Rattle.ja_code.specs.declared.opcode.Entry.TheVariants.{Loadable, TwoWord, Field, Method, InterfaceMethod, AnyMethod, Class}
-use Rattle.ja_code.specs.declared.opcode.Form.{Form}
-use Rattle.ja_code.specs.declared.opcode.Form.TheVariants.{Plain, Byte, Short, Local, Increment, ByteIndex, Index, Interface, ArrayType, Dimensions, Branch, FarBranch, TableSwitch, LookupSwitch}
+use Rattle.ja_code.specs.declared.form.Entry.{Entry}
+use Rattle.ja_code.specs.declared.form.Entry.TheVariants.{Loadable, TwoWord, Field, Method, InterfaceMethod, AnyMethod, Class}
+use Rattle.ja_code.specs.declared.form.Form.{Form}
+use Rattle.ja_code.specs.declared.form.Form.TheVariants.{Plain, Byte, Short, Local, Increment, ByteIndex, Index, Interface, ArrayType, Dimensions, Branch, FarBranch, TableSwitch, LookupSwitch}
 use Rattle.ja_code.specs.declared.instr.RawInstr.{RawInstr}
 use Rattle.ja_code.specs.Bytes.{names, u2}
 use Rattle.ja_code.specs.Grammar as grammar
-use Rattle.ja_code.specs.Grammar.{Takes, Names, IsInstr, AreInstrs}
+use Rattle.ja_code.specs.Grammar.{Takes, Names, IsInstr, AreInstrs, operand_at}
 use Rattle.ja_class.specs.Member.{is_method_tag, HasDescriptor}
-use Rattle.ja_kinds.specs.declared.behaviour.Behaviour.{Behaviour}
-use Rattle.ja_kinds.specs.declared.behaviour.Behaviour.TheVariants as does
+use Rattle.ja_code.specs.declared.behaviour.Behaviour.{Behaviour}
+use Rattle.ja_code.specs.declared.behaviour.Behaviour.TheVariants as does
+use Rattle.ja_code.specs.declared.behaviour.FieldAccess.TheVariants.{GetStatic, PutStatic, GetField, PutField}
 use Rattle.ja_kinds.specs.declared.effect.Effect.{Effect}
 use Rattle.ja_kinds.specs.declared.reading.Part.TheVariants as parts
-use Rattle.ja_kinds.specs.Effect.{kind_of_type, operand_at, constant_kind, NamesField, NamesMethod, fixed_effect, loaded_effect, field_effect, method_effect, HasEffect, Does, IsOneOf}
+use Rattle.ja_kinds.specs.Effect.{kind_of_type, constant_kind, NamesField, NamesMethod, fixed_effect, loaded_effect, field_effect, method_effect, HasEffect, Does, IsOneOf}
 use Rattle.ja_kinds.specs.Effect as effects
 use Rattle.ja_kinds.specs.Reading.{part_of}
 use Rattle.ja_kinds.proofs.Opcodes.{part_named, is_own, Fits, fitting}
@@ -42,12 +43,8 @@ some e = record { effect = e; is = refl }
 
 fixed_total : (i : RawInstr) (b : Behaviour) → part_of b ≡ parts.Nothing → Total (fixed_effect i b)
 fixed_total i does.Loaded p = absurd cc
-fixed_total i does.GetStatic p = absurd cc
-fixed_total i does.PutStatic p = absurd cc
-fixed_total i does.GetField p = absurd cc
-fixed_total i does.PutField p = absurd cc
-fixed_total i does.Invoke p = absurd cc
-fixed_total i does.InvokeStatic p = absurd cc
+fixed_total i (does.Access how) p = absurd cc
+fixed_total i (does.Invoke how) p = absurd cc
 fixed_total i b p = record { effect = _; is = refl }
 
 loaded_total : (b : Behaviour) (k : Kind) → part_of b ≡ parts.Constant → Total (loaded_effect b k)
@@ -55,15 +52,14 @@ loaded_total does.Loaded k p = some _
 loaded_total b k p = absurd cc
 
 field_total : (b : Behaviour) (k : Kind) → part_of b ≡ parts.Field → Total (field_effect b k)
-field_total does.GetStatic k p = some _
-field_total does.PutStatic k p = some _
-field_total does.GetField k p = some _
-field_total does.PutField k p = some _
+field_total (does.Access GetStatic) k p = some _
+field_total (does.Access PutStatic) k p = some _
+field_total (does.Access GetField) k p = some _
+field_total (does.Access PutField) k p = some _
 field_total b k p = absurd cc
 
 method_total : (b : Behaviour) (taken : List Kind) (given : Option Kind) → part_of b ≡ parts.Method → Total (method_effect b taken given)
-method_total does.Invoke taken given p = some _
-method_total does.InvokeStatic taken given p = some _
+method_total (does.Invoke how) taken given p = some _
 method_total b taken given p = absurd cc
 
 -- ---- tags

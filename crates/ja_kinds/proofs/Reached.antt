@@ -11,7 +11,7 @@ use Rattle.ja_code.specs.Grammar as grammar
 use Rattle.ja_code.specs.Grammar.{Spells}
 use Rattle.ja_class.specs.Meaning.{ClassSpelled}
 use Rattle.ja_class.specs.ClassFile.{IsSpelled}
-use Rattle.ja_kinds.specs.declared.behaviour.Behaviour.{Behaviour}
+use Rattle.ja_code.specs.declared.behaviour.Behaviour.{Behaviour}
 use Rattle.ja_kinds.specs.declared.effect.Effect.{Effect}
 use Rattle.ja_kinds.specs.declared.fault.KindFault.{KindFault}
 use Rattle.ja_kinds.specs.declared.fault.KindFault.TheVariants.{StackDepth, KindClash, FallsOff}
@@ -20,7 +20,8 @@ use Rattle.ja_kinds.specs.declared.state.KindState.{KindState}
 use Rattle.ja_kinds.specs.declared.state.State.{State}
 use Rattle.ja_kinds.specs.declared.state.State.TheVariants.{Unreached, Known, Clash}
 use Rattle.ja_kinds.specs.Frame.{AreBelow, Below, parameter_words}
-use Rattle.ja_kinds.specs.Effect.{is_wrong_depth, turned, goes_on, targets_of, Does, IsOneOf, LeadsTo}
+use Rattle.ja_kinds.specs.Effect.{is_wrong_depth, turned, targets_of, Does, IsOneOf, LeadsTo}
+use Rattle.ja_code.specs.Behaviour.{goes_on}
 use Rattle.ja_kinds.specs.Solution.{accepted, handed, after, thrown, thrown_with, HandledAt, is_narrow, falls_off, fault_at, AreKinds}
 use Rattle.ja_kinds.specs.Answer.{code_size, HasFrame}
 use Rattle.ja_kinds.proofs.Opcodes.{branches_are}

@@ -6,12 +6,12 @@ use Rattle.ja_bytes.proofs.MethodText.{method_unique}
 use Rattle.ja_pool.specs.Table.{Table}
 use Rattle.ja_code.specs.declared.instr.RawInstr.{RawInstr}
 use Rattle.ja_code.specs.declared.code.Code.{Code}
-use Rattle.ja_kinds.specs.declared.behaviour.Behaviour.{Behaviour}
+use Rattle.ja_code.specs.declared.behaviour.Behaviour.{Behaviour}
 use Rattle.ja_kinds.specs.declared.effect.Effect.{Effect}
 use Rattle.ja_kinds.specs.declared.frame.Frame.{Frame}
 use Rattle.ja_kinds.specs.declared.state.State.{State}
 use Rattle.ja_kinds.specs.declared.state.State.TheVariants.{Unreached}
-use Rattle.ja_kinds.specs.Behaviour.{behaviour_at}
+use Rattle.ja_code.specs.Behaviour.{behaviour_at}
 use Rattle.ja_kinds.specs.Frame.{Below}
 use Rattle.ja_kinds.specs.Effect.{HasEffect, Does, IsOneOf, LeadsTo}
 use Rattle.ja_kinds.specs.Reading.{Finds}

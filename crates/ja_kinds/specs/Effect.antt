@@ -7,18 +7,22 @@ use Rattle.ja_base.specs.declared.java_type.Kind.TheVariants.{P1, R, T}
 use Rattle.ja_base.specs.declared.java_type.JavaType.{JavaType}
 use Rattle.ja_pool.specs.Table.{Table, tag_at, member_desc_at, is_member_tag}
 use Rattle.ja_code.specs.declared.instr.RawInstr.{RawInstr}
-use Rattle.ja_kinds.specs.declared.behaviour.Source.{Source}
-use Rattle.ja_kinds.specs.declared.behaviour.Source.TheVariants.{Operand, Fixed}
-use Rattle.ja_kinds.specs.declared.behaviour.Operands.{Operands}
-use Rattle.ja_kinds.specs.declared.behaviour.Operands.TheVariants.{One, Two}
-use Rattle.ja_kinds.specs.declared.behaviour.Rearrangement.{Rearrangement}
-use Rattle.ja_kinds.specs.declared.behaviour.Rearrangement.TheVariants.{Pop, Pop2, Dup, DupX1, DupX2, Dup2, Dup2X1, Dup2X2, Swap}
-use Rattle.ja_kinds.specs.declared.behaviour.Behaviour.{Behaviour}
-use Rattle.ja_kinds.specs.declared.behaviour.Behaviour.TheVariants.{Nothing, Constant, Loaded, Load, Store, Increment, ArrayLoad, ArrayStore, Rearrange, Compute, Test, Jump, Switch, Return, GetStatic, PutStatic, GetField, PutField, Invoke, InvokeStatic, New, NewArray, NewArrays, ArrayLength, Throw, Cast, InstanceOf, Monitor}
+use Rattle.ja_code.specs.declared.behaviour.Source.{Source}
+use Rattle.ja_code.specs.declared.behaviour.Source.TheVariants.{Operand, Fixed}
+use Rattle.ja_code.specs.declared.behaviour.Operands.{Operands}
+use Rattle.ja_code.specs.declared.behaviour.Operands.TheVariants.{One, Two}
+use Rattle.ja_code.specs.declared.behaviour.Rearrangement.{Rearrangement}
+use Rattle.ja_code.specs.declared.behaviour.Rearrangement.TheVariants.{Pop, Pop2, Dup, DupX1, DupX2, Dup2, Dup2X1, Dup2X2, Swap}
+use Rattle.ja_code.specs.declared.behaviour.FieldAccess.TheVariants.{GetStatic, PutStatic, GetField, PutField}
+use Rattle.ja_code.specs.declared.behaviour.Invocation.{Invocation}
+use Rattle.ja_code.specs.declared.behaviour.Invocation.TheVariants.{Static}
+use Rattle.ja_code.specs.declared.behaviour.Behaviour.{Behaviour}
+use Rattle.ja_code.specs.declared.behaviour.Behaviour.TheVariants.{Nothing, Constant, Loaded, Load, Store, Increment, ArrayLoad, ArrayStore, Rearrange, Compute, Test, Jump, Switch, Return, Access, Invoke, New, NewArray, NewArrays, ArrayLength, Throw, Cast, InstanceOf, Monitor}
 use Rattle.ja_kinds.specs.declared.effect.Effect.{Effect}
 use Rattle.ja_kinds.specs.declared.effect.Effect.TheVariants.{Loads, Stores, Counts, Moves, Exchanges, Leaves}
 use Rattle.ja_kinds.specs.declared.state.KindState.{KindState}
-use Rattle.ja_kinds.specs.Behaviour.{behaviour_at}
+use Rattle.ja_code.specs.Grammar.{operand_at}
+use Rattle.ja_code.specs.Behaviour.{behaviour_at, goes_on, branches}
 use Rattle.ja_kinds.specs.Frame.{same_kind, same_kinds, local_at, stored, words, top, under}
 
 -- ---- from opcode, operands and pool to the effect
@@ -35,10 +39,6 @@ kinds_in (Some kind) = kind ∷ []
 
 abbrev pub kind_of_type : JavaType → Kind
 kind_of_type type = type.kind
-
--- the operand of an instruction at a place, 0 where it has none there
-abbrev pub operand_at : RawInstr → ℕ → ℕ
-operand_at i place = slice_index i.operands place
 
 -- the local that an instruction uses
 abbrev pub place_of : Source → RawInstr → ℕ
@@ -81,14 +81,10 @@ fixed_effect i (Test operands) = Some (Exchanges (kinds_of operands) [])
 fixed_effect i Jump = Some (Exchanges [] [])
 fixed_effect i Switch = Some (Exchanges (P1 ∷ []) [])
 fixed_effect i (Return kind) = Some (Leaves kind)
-fixed_effect i GetStatic = None
-fixed_effect i PutStatic = None
-fixed_effect i GetField = None
-fixed_effect i PutField = None
-fixed_effect i Invoke = None
-fixed_effect i InvokeStatic = None
+fixed_effect i (Access how) = None
+fixed_effect i (Invoke how) = None
 fixed_effect i New = Some (Exchanges [] (R ∷ []))
-fixed_effect i NewArray = Some (Exchanges (P1 ∷ []) (R ∷ []))
+fixed_effect i (NewArray elements) = Some (Exchanges (P1 ∷ []) (R ∷ []))
 fixed_effect i NewArrays = Some (Exchanges (replicate (operand_at i 1) P1) (R ∷ []))
 fixed_effect i ArrayLength = Some (Exchanges (R ∷ []) (P1 ∷ []))
 fixed_effect i Throw = Some (Exchanges (R ∷ []) [])
@@ -103,16 +99,20 @@ loaded_effect behaviour kind = None
 
 -- where it names a field of this kind
 abbrev pub field_effect : Behaviour → Kind → Option Effect
-field_effect GetStatic kind = Some (Exchanges [] (kind ∷ []))
-field_effect PutStatic kind = Some (Exchanges (kind ∷ []) [])
-field_effect GetField kind = Some (Exchanges (R ∷ []) (kind ∷ []))
-field_effect PutField kind = Some (Exchanges (R ∷ kind ∷ []) [])
+field_effect (Access GetStatic) kind = Some (Exchanges [] (kind ∷ []))
+field_effect (Access PutStatic) kind = Some (Exchanges (kind ∷ []) [])
+field_effect (Access GetField) kind = Some (Exchanges (R ∷ []) (kind ∷ []))
+field_effect (Access PutField) kind = Some (Exchanges (R ∷ kind ∷ []) [])
 field_effect behaviour kind = None
+
+-- the kinds that a call takes below the arguments: that of its receiver, if it has one
+abbrev pub receiver_of : Invocation → List Kind
+receiver_of Static = []
+receiver_of how = R ∷ []
 
 -- where it names a method that takes and gives values of these kinds
 abbrev pub method_effect : Behaviour → List Kind → Option Kind → Option Effect
-method_effect Invoke taken given = Some (Exchanges (R ∷ taken) (kinds_in given))
-method_effect InvokeStatic taken given = Some (Exchanges taken (kinds_in given))
+method_effect (Invoke how) taken given = Some (Exchanges (receiver_of how ++ taken) (kinds_in given))
 method_effect behaviour taken given = None
 
 -- a behaviour has this effect, by the operands of the instruction and the pool
@@ -260,21 +260,6 @@ turned returns (Leaves kind) f =
     if may_return returns kind then with_stack f.locals (exchanged (kinds_in kind) [] f.stack) else None
 
 -- ---- the way on
-
--- whether the next instruction in the code may come after one
-abbrev pub goes_on : Behaviour → Bool
-goes_on Jump = false
-goes_on Switch = false
-goes_on (Return kind) = false
-goes_on Throw = false
-goes_on behaviour = true
-
--- whether the operands of an instruction are places where it may go
-abbrev pub branches : Behaviour → Bool
-branches (Test operands) = true
-branches Jump = true
-branches Switch = true
-branches behaviour = false
 
 -- the places where it may branch to
 abbrev pub targets_of : Behaviour → RawInstr → List ℕ

@@ -1,4 +1,3 @@
-pub mod Behaviour
 pub mod Frame
 pub mod Effect
 pub mod Solution

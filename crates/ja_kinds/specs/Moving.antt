@@ -3,8 +3,8 @@ use Rattle.std.specs.Prelude.{◌≡◌, ℕ, List, ◌++◌, length, map, slice
 use Rattle.ja_base.specs.Kind.{words_of}
 use Rattle.ja_base.specs.declared.java_type.Kind.{Kind}
 use Rattle.ja_base.specs.declared.java_type.Kind.TheVariants.{T}
-use Rattle.ja_kinds.specs.declared.behaviour.Rearrangement.{Rearrangement}
-use Rattle.ja_kinds.specs.Behaviour.{Move, moves_of}
+use Rattle.ja_code.specs.declared.behaviour.Rearrangement.{Rearrangement}
+use Rattle.ja_code.specs.Behaviour.{Move, moves_of}
 use Rattle.ja_kinds.specs.Frame.{top, under}
 use Rattle.ja_kinds.specs.Effect.{IsOneOf}
 

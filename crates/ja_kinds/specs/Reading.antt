@@ -3,8 +3,8 @@ use Rattle.std.specs.Prelude.{List, Option, Some, None}
 use Rattle.ja_base.specs.declared.java_type.Kind.{Kind}
 use Rattle.ja_pool.specs.Table.{Table}
 use Rattle.ja_code.specs.declared.instr.RawInstr.{RawInstr}
-use Rattle.ja_kinds.specs.declared.behaviour.Behaviour.{Behaviour}
-use Rattle.ja_kinds.specs.declared.behaviour.Behaviour.TheVariants.{Loaded, GetStatic, PutStatic, GetField, PutField, Invoke, InvokeStatic}
+use Rattle.ja_code.specs.declared.behaviour.Behaviour.{Behaviour}
+use Rattle.ja_code.specs.declared.behaviour.Behaviour.TheVariants.{Loaded, Access, Invoke}
 use Rattle.ja_kinds.specs.declared.effect.Effect.{Effect}
 use Rattle.ja_kinds.specs.declared.reading.Part.{Part}
 use Rattle.ja_kinds.specs.declared.reading.Part.TheVariants.{Nothing, Constant, Field, Method}
@@ -14,12 +14,8 @@ use Rattle.ja_kinds.specs.Effect.{NamesField, NamesMethod, HasEffect}
 -- what of the pool the effect of a behaviour depends on
 abbrev pub part_of : Behaviour → Part
 part_of Loaded = Constant
-part_of GetStatic = Field
-part_of PutStatic = Field
-part_of GetField = Field
-part_of PutField = Field
-part_of Invoke = Method
-part_of InvokeStatic = Method
+part_of (Access how) = Field
+part_of (Invoke how) = Method
 part_of behaviour = Nothing
 
 -- the kind of the field that an instruction names, or that it names none

@@ -6,7 +6,7 @@ use Rattle.ja_pool.specs.Table.{Table}
 use Rattle.ja_code.specs.declared.instr.RawInstr.{RawInstr}
 use Rattle.ja_code.specs.declared.handler.RawHandler.{RawHandler}
 use Rattle.ja_code.specs.declared.code.Code.{Code}
-use Rattle.ja_kinds.specs.declared.behaviour.Behaviour.{Behaviour}
+use Rattle.ja_code.specs.declared.behaviour.Behaviour.{Behaviour}
 use Rattle.ja_kinds.specs.declared.effect.Effect.{Effect}
 use Rattle.ja_kinds.specs.declared.fault.KindFault.{KindFault}
 use Rattle.ja_kinds.specs.declared.fault.KindFault.TheVariants.{FrameSize, StackDepth, KindClash, FallsOff}
@@ -15,7 +15,8 @@ use Rattle.ja_kinds.specs.declared.state.State.{State}
 use Rattle.ja_kinds.specs.declared.state.State.TheVariants.{Unreached, Known, Clash}
 use Rattle.ja_kinds.specs.declared.frame.Frame.{Frame}
 use Rattle.ja_kinds.specs.Frame.{Below, entry_locals, parameter_words}
-use Rattle.ja_kinds.specs.Effect.{Does, is_wrong_depth, turned, goes_on, LeadsTo, IsOneOf}
+use Rattle.ja_kinds.specs.Effect.{Does, is_wrong_depth, turned, LeadsTo, IsOneOf}
+use Rattle.ja_code.specs.Behaviour.{goes_on}
 
 -- ---- what an instruction hands on
 

@@ -8,7 +8,7 @@ use Rattle.ja_code.specs.declared.code.Code.{Code}
 use Rattle.ja_code.specs.declared.handler.RawHandler.{RawHandler}
 use Rattle.ja_kinds.specs.declared.frame.Frame.{Frame}
 use Rattle.ja_kinds.specs.declared.fault.KindFault.{KindFault}
-use Rattle.ja_kinds.specs.declared.behaviour.Behaviour.{Behaviour}
+use Rattle.ja_code.specs.declared.behaviour.Behaviour.{Behaviour}
 use Rattle.ja_kinds.specs.declared.effect.Effect.{Effect}
 use Rattle.ja_kinds.specs.declared.state.KindState.{KindState}
 use Rattle.ja_kinds.specs.declared.state.State.{State}

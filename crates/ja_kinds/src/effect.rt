@@ -1,6 +1,6 @@
-use crate::behaviour::Rearrangement;
 use crate::state::KindList;
 use ja_base::Kind;
+use ja_code::Rearrangement;
 
 /// What an instruction does to a frame, with what its operands and the constant pool say.
 #[derive(Drop)]

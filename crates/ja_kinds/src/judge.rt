@@ -4,18 +4,15 @@ ghost use Rattle.ja_kinds.specs.Solution.{is_narrow, falls_off, is_too_large, fa
 ghost use Rattle.ja_kinds.specs.Solving.{state_at, IsFaultAt, IsFirstOf};
 ghost use Rattle.ja_kinds.specs.declared.state.State.TheVariants.{Known};
 
-use crate::behaviour::Behaviour;
 use crate::effect::Effect;
 use crate::fault::KindFault;
 use crate::frame::Frame;
 use crate::reading::effect_of;
-use crate::solve::goes_on;
 use crate::stack::words;
 use crate::state::{KindState, State};
 use crate::step::{is_wrong_depth, turned};
-use crate::table::behaviour_of;
 use ja_base::{MAX_FRAME_VALUES, Memory};
-use ja_code::RawInstr;
+use ja_code::{Behaviour, RawInstr};
 use ja_pool::Pool;
 use std::alloc::Global;
 
@@ -31,7 +28,7 @@ fn falls_off(frame: &Frame, instr: &RawInstr, behaviour: Behaviour) -> bool
     ensures { result ≡ falls_off frame.now instr.now behaviour }
 {
     let next = u64::from(instr.pc) + u64::from(instr.length);
-    goes_on(behaviour) && next == u64::from(frame.size)
+    behaviour.goes_on() && next == u64::from(frame.size)
 }
 
 /// Whether the locals and the stack have too many words together.
@@ -97,7 +94,7 @@ fn fault_in(
     if instr.pc as usize >= states.len() {
         return Ok(None);
     }
-    let Some(behaviour) = behaviour_of(instr.opcode) else {
+    let Some(behaviour) = instr.opcode.behaviour() else {
         return Ok(None);
     };
     let found = effect_of(alloc, pool, instr, behaviour)?;

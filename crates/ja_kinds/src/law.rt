@@ -1,7 +1,7 @@
 ghost use Rattle.std.specs.Prelude.{◌≡◌, ℕ, List, Option, slice_get, Some};
 ghost use Rattle.ja_pool.specs.Table.{Table};
 ghost use Rattle.ja_code.specs.declared.instr.RawInstr.{RawInstr};
-ghost use Rattle.ja_kinds.specs.declared.behaviour.Behaviour.{Behaviour};
+ghost use Rattle.ja_code.specs.declared.behaviour.Behaviour.{Behaviour};
 ghost use Rattle.ja_kinds.specs.declared.effect.Effect.{Effect};
 ghost use Rattle.ja_code.specs.declared.code.Code.{Code};
 ghost use Rattle.ja_class.specs.declared.class.ClassMethod.{ClassMethod};
@@ -16,8 +16,8 @@ ghost use Rattle.ja_kinds.specs.Solution.{IsLeast, AreKinds};
 ghost use Rattle.ja_kinds.specs.Answer.{HasFrame, AreKindsOf, IsFaultOf};
 ghost use Rattle.ja_kinds.specs.Reached.{AreReached};
 ghost use Rattle.ja_base.specs.declared.java_type.Kind.{Kind};
-ghost use Rattle.ja_kinds.specs.declared.behaviour.Rearrangement.{Rearrangement};
-ghost use Rattle.ja_kinds.specs.Behaviour.{Move, moves_of};
+ghost use Rattle.ja_code.specs.declared.behaviour.Rearrangement.{Rearrangement};
+ghost use Rattle.ja_code.specs.Behaviour.{Move, moves_of};
 ghost use Rattle.ja_kinds.specs.Moving.{IsFitting, stack_after, IsMovedTo};
 
 use ja_bytes::law_one_reading;

@@ -2,7 +2,6 @@
 #![tactic(auto)]
 
 mod answer;
-mod behaviour;
 mod effect;
 mod entry;
 mod fault;
@@ -20,14 +19,12 @@ mod stack;
 mod state;
 mod step;
 mod sweep;
-mod table;
 
 pub use answer::kinds;
-pub use behaviour::{Behaviour, Operands, Rearrangement, Source};
 pub use effect::Effect;
 pub use fault::KindFault;
 pub use frame::Frame;
 pub use known::Kinds;
 pub use law::{law_each_has_an_effect, law_moves, law_one_answer, law_one_effect, law_reached};
+pub use pool_kinds::tag_named;
 pub use state::{KindList, KindState, State};
-pub use table::behaviour_of;

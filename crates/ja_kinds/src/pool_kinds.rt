@@ -1,6 +1,7 @@
 ghost use Rattle.std.specs.Prelude.{◌≡◌, false, IfOk, IfSome, IfNone, IsTrue, map, option_map};
 ghost use Rattle.ja_pool.specs.Table.{tag_at, is_member_tag};
-ghost use Rattle.ja_kinds.specs.Effect.{constant_kind, operand_at, kind_of_type};
+ghost use Rattle.ja_kinds.specs.Effect.{constant_kind, kind_of_type};
+ghost use Rattle.ja_code.specs.Grammar.{operand_at};
 ghost use Rattle.ja_kinds.specs.Reading.{FindsField, FindsMethod};
 
 use crate::state::KindList;
@@ -17,22 +18,11 @@ pub(crate) struct MethodKinds {
     pub given: Option<Kind>,
 }
 
-/// The operand of an instruction at a place, 0 where it has none there.
-pub(crate) fn operand(instr: &RawInstr, place: u64) -> u64
-    ensures { result ≡ operand_at instr.now place }
-{
-    if place < instr.operands.len() {
-        *instr.operands.at(place)
-    } else {
-        0
-    }
-}
-
 /// The tag of the entry that an instruction names, 0 where it names none.
-pub(crate) fn tag_named(pool: &Pool, instr: &RawInstr) -> u8
+pub fn tag_named(pool: &Pool, instr: &RawInstr) -> u8
     ensures { result ≡ tag_at pool.now (operand_at instr.now 0) }
 {
-    let index = operand(instr, 0);
+    let index = instr.operand(0);
     if index < u64::from(pool.count()) {
         pool.tag(index as u32)
     } else {
@@ -66,7 +56,7 @@ fn member_named(pool: &Pool, instr: &RawInstr) -> Option<u32>
     ensures member { IfSome result (λ n. IsTrue (is_member_tag (tag_at pool.now n))) }
     ensures none { IfNone result (is_member_tag (tag_at pool.now (operand_at instr.now 0)) ≡ false) }
 {
-    let place = operand(instr, 0);
+    let place = instr.operand(0);
     if place >= u64::from(pool.count()) {
         return None;
     }

@@ -1,18 +1,17 @@
 ghost use Rattle.std.specs.Prelude.{◌≡◌, [], ◌∷◌, replicate, IfOk, Some};
 ghost use Rattle.ja_base.specs.declared.java_type.Kind.TheVariants.{P1, R};
 ghost use Rattle.ja_kinds.specs.declared.effect.Effect.TheVariants.{Exchanges};
-ghost use Rattle.ja_kinds.specs.Effect.{fixed_effect, loaded_effect, field_effect, method_effect, kinds_of, kinds_in, place_of};
+ghost use Rattle.ja_kinds.specs.Effect.{fixed_effect, loaded_effect, field_effect, receiver_of, method_effect, kinds_of, kinds_in, place_of};
 ghost use Rattle.ja_kinds.specs.Reading.{part_of, Finds};
 ghost use Rattle.ja_kinds.specs.declared.reading.Part.TheVariants.{Constant, Field, Method};
 
-use crate::behaviour::{Behaviour, Operands, Source};
 use crate::effect::Effect;
-use crate::pool_kinds::{MethodKinds, constant_kind, field_kind, method_kinds, operand, tag_named};
+use crate::pool_kinds::{MethodKinds, constant_kind, field_kind, method_kinds, tag_named};
 use crate::stack::joined;
 use crate::state::KindList;
 use crate::step::list_of;
 use ja_base::{Kind, Memory};
-use ja_code::RawInstr;
+use ja_code::{Behaviour, FieldAccess, Invocation, Operands, RawInstr, Source};
 use ja_pool::Pool;
 use std::alloc::Global;
 
@@ -57,7 +56,7 @@ fn place_of(source: Source, instr: &RawInstr) -> u64
     ensures { result ≡ place_of source instr.now }
 {
     match source {
-        Source::Operand => operand(instr, 0),
+        Source::Operand => instr.operand(0),
         Source::Fixed(place) => u64::from(place),
     }
 }
@@ -75,7 +74,7 @@ fn fixed_effect(
         Behaviour::Constant(kind) => exchange(alloc, &[], &[kind]),
         Behaviour::Load(kind, source) => Ok(Some(Effect::Loads(kind, place_of(source, instr)))),
         Behaviour::Store(kind, source) => Ok(Some(Effect::Stores(kind, place_of(source, instr)))),
-        Behaviour::Increment => Ok(Some(Effect::Counts(operand(instr, 0)))),
+        Behaviour::Increment => Ok(Some(Effect::Counts(instr.operand(0)))),
         Behaviour::ArrayLoad(kind) => exchange(alloc, &[Kind::R, Kind::P1], &[kind]),
         Behaviour::ArrayStore(kind) => exchange(alloc, &[Kind::R, Kind::P1, kind], &[]),
         Behaviour::Rearrange(how) => Ok(Some(Effect::Moves(how))),
@@ -88,8 +87,8 @@ fn fixed_effect(
         Behaviour::Switch => exchange(alloc, &[Kind::P1], &[]),
         Behaviour::Return(kind) => Ok(Some(Effect::Leaves(kind))),
         Behaviour::New => exchange(alloc, &[], &[Kind::R]),
-        Behaviour::NewArray => exchange(alloc, &[Kind::P1], &[Kind::R]),
-        Behaviour::NewArrays => exchange_ints(alloc, operand(instr, 1)),
+        Behaviour::NewArray(_) => exchange(alloc, &[Kind::P1], &[Kind::R]),
+        Behaviour::NewArrays => exchange_ints(alloc, instr.operand(1)),
         Behaviour::ArrayLength | Behaviour::InstanceOf => exchange(alloc, &[Kind::R], &[Kind::P1]),
         Behaviour::Throw | Behaviour::Monitor => exchange(alloc, &[Kind::R], &[]),
         Behaviour::Cast => exchange(alloc, &[Kind::R], &[Kind::R]),
@@ -112,11 +111,21 @@ fn field_effect(alloc: Global, behaviour: Behaviour, kind: Kind) -> Result<Optio
     ensures { IfOk result (λ found. found ≡ field_effect behaviour kind) }
 {
     match behaviour {
-        Behaviour::GetStatic => exchange(alloc, &[], &[kind]),
-        Behaviour::PutStatic => exchange(alloc, &[kind], &[]),
-        Behaviour::GetField => exchange(alloc, &[Kind::R], &[kind]),
-        Behaviour::PutField => exchange(alloc, &[Kind::R, kind], &[]),
+        Behaviour::Access(FieldAccess::GetStatic) => exchange(alloc, &[], &[kind]),
+        Behaviour::Access(FieldAccess::PutStatic) => exchange(alloc, &[kind], &[]),
+        Behaviour::Access(FieldAccess::GetField) => exchange(alloc, &[Kind::R], &[kind]),
+        Behaviour::Access(FieldAccess::PutField) => exchange(alloc, &[Kind::R, kind], &[]),
         _ => Ok(None),
+    }
+}
+
+/// The kinds that a call takes below the arguments: that of its receiver, if it has one.
+fn receiver_of(how: Invocation) -> &'static [Kind]
+    ensures { result.now ≡ receiver_of how }
+{
+    match how {
+        Invocation::Static => &[],
+        Invocation::Virtual | Invocation::Special | Invocation::Interface => &[Kind::R],
     }
 }
 
@@ -130,11 +139,10 @@ fn method_effect(
 {
     let given = list_of(alloc, kinds.given)?;
     match behaviour {
-        Behaviour::Invoke => {
-            let taken = joined(alloc, &[Kind::R], kinds.taken.as_slice())?;
+        Behaviour::Invoke(how) => {
+            let taken = joined(alloc, receiver_of(how), kinds.taken.as_slice())?;
             exchange(alloc, taken.as_slice(), given.as_slice())
         }
-        Behaviour::InvokeStatic => exchange(alloc, kinds.taken.as_slice(), given.as_slice()),
         _ => Ok(None),
     }
 }
@@ -195,12 +203,8 @@ fn part_of(behaviour: Behaviour) -> Part
 {
     match behaviour {
         Behaviour::Loaded => Part::Constant,
-        Behaviour::GetStatic => Part::Field,
-        Behaviour::PutStatic => Part::Field,
-        Behaviour::GetField => Part::Field,
-        Behaviour::PutField => Part::Field,
-        Behaviour::Invoke => Part::Method,
-        Behaviour::InvokeStatic => Part::Method,
+        Behaviour::Access(_) => Part::Field,
+        Behaviour::Invoke(_) => Part::Method,
         _ => Part::Nothing,
     }
 }

@@ -1,18 +1,18 @@
-ghost use Rattle.std.specs.Prelude.{◌≡◌, ℕ, ◌+◌, ◌∷◌, [], true, false, ◌&&◌, nat_le, nat_lt, length, IfOk};
+ghost use Rattle.std.specs.Prelude.{◌≡◌, ℕ, ◌+◌, ◌<◌, ◌≤◌, ◌∷◌, [], true, false, ◌&&◌, nat_le, nat_lt, length, IfOk};
 ghost use Rattle.ja_base.specs.declared.java_type.Kind.TheVariants.{R};
 ghost use Rattle.ja_kinds.specs.declared.state.State.TheVariants.{Known};
-ghost use Rattle.ja_kinds.specs.Effect.{IsOneOf, LeadsTo, goes_on, branches, targets_of};
+ghost use Rattle.ja_kinds.specs.Effect.{IsOneOf, LeadsTo, targets_of};
+ghost use Rattle.ja_code.specs.Behaviour.{goes_on, branches};
 ghost use Rattle.ja_kinds.specs.Solution.{HandledAt, after, thrown};
 ghost use Rattle.ja_kinds.specs.Solving.{state_at, IsWide, AreWide, Catches, Hands, Sweeps};
 
-use crate::behaviour::Behaviour;
 use crate::effect::Effect;
 use crate::frame::Frame;
 use crate::merge::{is_below, merge};
 use crate::state::{KindState, State};
 use crate::step::{accepted, copy, one};
 use ja_base::{Kind, Memory};
-use ja_code::{Code, RawHandler, RawInstr};
+use ja_code::{Behaviour, Code, RawHandler, RawInstr};
 use ja_pool::Pool;
 use std::alloc::Global;
 
@@ -155,31 +155,6 @@ pub(crate) fn outcome_at(
     outcome_of(alloc, frame, effect, covered, &states[pc as usize])
 }
 
-/// Whether the next instruction in the code may come after one.
-pub(crate) fn goes_on(behaviour: Behaviour) -> bool
-    ensures { result ≡ goes_on behaviour }
-{
-    match behaviour {
-        Behaviour::Jump => false,
-        Behaviour::Switch => false,
-        Behaviour::Return(_) => false,
-        Behaviour::Throw => false,
-        _ => true,
-    }
-}
-
-/// Whether the operands of an instruction are places where it may go.
-fn branches(behaviour: Behaviour) -> bool
-    ensures { result ≡ branches behaviour }
-{
-    match behaviour {
-        Behaviour::Test(_) => true,
-        Behaviour::Jump => true,
-        Behaviour::Switch => true,
-        _ => false,
-    }
-}
-
 /// Hands a state to the targets of an instruction.
 fn raise_targets(
     alloc: Global,
@@ -195,7 +170,7 @@ fn raise_targets(
     requires state { IsWide max_locals state.now }
     ensures { IfOk result (Hands max_locals (λ p. IsOneOf p (targets_of behaviour instr.now)) state.now states.old states.new dirty.old dirty.new) }
 {
-    if !branches(behaviour) {
+    if !behaviour.branches() {
         return Ok(false);
     }
     raise_all(
@@ -223,7 +198,7 @@ fn raise_next(
     requires state { IsWide max_locals state.now }
     ensures { IfOk result (Hands max_locals (λ p. (goes_on behaviour ≡ true) × (p ≡ instr.now.pc + instr.now.length)) state.now states.old states.new dirty.old dirty.new) }
 {
-    if !goes_on(behaviour) {
+    if !behaviour.goes_on() {
         return Ok(false);
     }
     let next = u64::from(instr.pc) + u64::from(instr.length);
@@ -252,7 +227,9 @@ pub(crate) fn raise_after(
 
 /// Whether the range of an entry of the exception table has the pc.
 fn covers(row: RawHandler, pc: u32) -> bool
-    ensures { result ≡ (nat_le row.start pc && nat_lt pc row.end) }
+    ensures test { result ≡ (nat_le row.start pc && nat_lt pc row.end) }
+    ensures inside { result ≡ true → (row.start ≤ pc) × (pc < row.end) }
+    ensures outside { result ≡ false → (place : ℕ) → Catches row pc place → ⊥ }
 {
     u32::from(row.start) <= pc && pc < u32::from(row.end)
 }
@@ -284,12 +261,7 @@ fn raise_handler(
     requires state { IsWide max_locals state.now }
     ensures { IfOk result (Hands max_locals (λ p. Catches row pc p) state.now states.old states.new dirty.old dirty.new) }
 {
-    let start = u32::from(row.start);
-    let end = u32::from(row.end);
-    if pc < start {
-        return Ok(false);
-    }
-    if pc >= end {
+    if !covers(row, pc) {
         return Ok(false);
     }
     raise(

@@ -2,10 +2,10 @@ ghost use Rattle.std.specs.Prelude.{◌≡◌, ◌++◌, IfOk};
 ghost use Rattle.ja_kinds.specs.Frame.{same_kinds, words, top, under};
 ghost use Rattle.ja_kinds.specs.Effect.{top_words, under_words, moved, moved_words, exchanged, block, rearranged};
 
-use crate::behaviour::Rearrangement;
 use crate::locals::same_kind;
 use crate::state::KindList;
 use ja_base::{Kind, Memory};
+use ja_code::Rearrangement;
 use std::alloc::Global;
 
 /// Whether two lists have the same kinds.

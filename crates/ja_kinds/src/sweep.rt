@@ -11,7 +11,6 @@ use crate::frame::Frame;
 use crate::reading::effect_of;
 use crate::solve::{is_covered, outcome_at, raise, raise_after, raise_handlers};
 use crate::state::State;
-use crate::table::behaviour_of;
 use ja_base::Memory;
 use ja_code::{Code, RawInstr};
 use ja_pool::Pool;
@@ -32,7 +31,7 @@ fn spread(
     requires size { length states.old ≡ frame.now.size }
     ensures { IfOk result (Spreads pool.now code.now frame.now instr.now states.old states.new dirty.old dirty.new) }
 {
-    let Some(behaviour) = behaviour_of(instr.opcode) else {
+    let Some(behaviour) = instr.opcode.behaviour() else {
         return Ok(false);
     };
     let found = effect_of(alloc, pool, instr, behaviour)?;

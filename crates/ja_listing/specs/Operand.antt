@@ -1,8 +1,8 @@
 -- The operands of instructions in the notation.
 use Rattle.std.specs.Prelude.{ℕ, ◌+◌, List, length, take, drop, slice_get, position, Option, Some, None, ◌==◌, if◌then◌else◌}
-use Rattle.ja_code.specs.declared.opcode.Entry.TheVariants as entries
-use Rattle.ja_code.specs.declared.opcode.Form.{Form}
-use Rattle.ja_code.specs.declared.opcode.Form.TheVariants.{Plain, Byte, Short, Local, Increment, ByteIndex, Index, Interface, Dynamic, ArrayType, Dimensions, Branch, FarBranch, TableSwitch, LookupSwitch, Wide}
+use Rattle.ja_code.specs.declared.form.Entry.TheVariants as entries
+use Rattle.ja_code.specs.declared.form.Form.{Form}
+use Rattle.ja_code.specs.declared.form.Form.TheVariants.{Plain, Byte, Short, Local, Increment, ByteIndex, Index, Interface, Dynamic, ArrayType, Dimensions, Branch, FarBranch, TableSwitch, LookupSwitch, Wide}
 use Rattle.ja_listing.specs.declared.number.Number.{Number}
 use Rattle.ja_listing.specs.declared.word.Word.{Word}
 use Rattle.ja_listing.specs.declared.word.Word.TheVariants.{Bare, Text, Whole}

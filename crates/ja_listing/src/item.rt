@@ -1,5 +1,6 @@
 use crate::Number;
 use ja_base::{Name, Seq};
+use ja_code::Opcode;
 
 /// The name of a field or a method of a class.
 #[derive(Drop)]
@@ -71,7 +72,7 @@ pub enum Item {
     },
     Instruction {
         label: Option<Name>,
-        opcode: u8,
+        opcode: Opcode,
         operand: Operand,
     },
 }

@@ -7,7 +7,7 @@ use crate::operand::{bare_at, name_at, number_at, operand_of};
 use crate::word::Word;
 use crate::{Frame, Head, Item, Line};
 use ja_base::Name;
-use ja_code::{form_of, opcode_of};
+use ja_code::Opcode;
 use std::alloc::Global;
 
 #[tactic(auto, unfolding(crate::specs::Item::class_line))]
@@ -110,13 +110,10 @@ fn instruction(alloc: Global, label: Option<Name>, words: &[Word]) -> Result<Ite
     ensures { Gives result (instruction label words.now) }
 {
     let mnemonic = bare_at(words, 0)?;
-    let Some(opcode) = opcode_of(mnemonic.bytes()) else {
+    let Some(opcode) = Opcode::named(mnemonic.bytes()) else {
         return Err(ItemFault::Broken);
     };
-    let Some(form) = form_of(opcode) else {
-        return Err(ItemFault::Broken);
-    };
-    let operand = operand_of(alloc, form, behind_first(words))?;
+    let operand = operand_of(alloc, opcode.form(), behind_first(words))?;
     Ok(Item::Instruction {
         label,
         opcode,

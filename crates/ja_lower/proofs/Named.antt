@@ -28,10 +28,11 @@ use Rattle.ja_hier.specs.declared.starts.Member.TheVariants.{Field as OfFields}
 use Rattle.ja_hier.specs.LookUps.{fields_of, FieldSearch, nowhere, here, further, FindsField, in_program, in_library, missing}
 use Rattle.ja_hier.specs.Members.{count_of}
 use Rattle.ja_kinds.specs.declared.state.KindState.{KindState}
-use Rattle.ja_kinds.specs.declared.behaviour.Behaviour.{Behaviour}
-use Rattle.ja_kinds.specs.declared.behaviour.Behaviour.TheVariants as does
+use Rattle.ja_code.specs.declared.behaviour.Behaviour.{Behaviour}
+use Rattle.ja_code.specs.declared.behaviour.FieldAccess.TheVariants.{GetStatic, PutStatic, GetField, PutField}
+use Rattle.ja_code.specs.declared.behaviour.Behaviour.TheVariants as does
 use Rattle.ja_operations.specs.declared.member.MemberRef.{MemberRef}
-use Rattle.ja_kinds.specs.Effect.{operand_at}
+use Rattle.ja_code.specs.Grammar.{operand_at}
 use Rattle.ja_operations.specs.Names.{member_in}
 use Rattle.ja_operations.specs.Tokens.{library_token}
 use Rattle.ja_operations.specs.Fields as fields
@@ -103,14 +104,13 @@ module _ (heads : List ClassHead) where
   module _ (rows : Content) (c : ℕ) (pool : Table) (i : RawInstr) (before : Option KindState) where
     named-by : (b : Behaviour) (op : Op) → OperatesAs heads rows c pool i before b op → NamesItsField heads op
     named-by does.Loaded op p = named-as op _ p (loaded-named (tag_at pool (operand_at i 0)))
-    named-by does.GetStatic op p = access-named (member_in pool i) ops.GetStatic (static_read rows.categories (member_in pool i)) op (λ x lt. lt) p
-    named-by does.PutStatic op p = write-named (member_in pool i) op p
-    named-by does.GetField op p = access-named (member_in pool i) ops.GetField (member_read rows.categories (member_in pool i)) op (λ x lt. lt) p
-    named-by does.PutField op p = access-named (member_in pool i) ops.PutField (member_write rows.categories (member_in pool i)) op (λ x lt. lt) p
-    named-by does.Invoke op p = named-as op _ p.is tt
-    named-by does.InvokeStatic op p = named-as op _ p.is tt
+    named-by (does.Access GetStatic) op p = access-named (member_in pool i) ops.GetStatic (static_read rows.categories (member_in pool i)) op (λ x lt. lt) p
+    named-by (does.Access PutStatic) op p = write-named (member_in pool i) op p
+    named-by (does.Access GetField) op p = access-named (member_in pool i) ops.GetField (member_read rows.categories (member_in pool i)) op (λ x lt. lt) p
+    named-by (does.Access PutField) op p = access-named (member_in pool i) ops.PutField (member_write rows.categories (member_in pool i)) op (λ x lt. lt) p
+    named-by (does.Invoke how) op p = named-as op _ p.is tt
     named-by does.New op p = named-as op _ p tt
-    named-by does.NewArray op p = named-as op _ p tt
+    named-by (does.NewArray elements) op p = named-as op _ p tt
     named-by does.NewArrays op p = named-as op _ p tt
     named-by does.Nothing op p = named-as op _ p tt
     named-by (does.Constant kind) op p = named-as op _ p tt

@@ -13,7 +13,7 @@ use crate::put::{put_u1, put_u2, put_u4};
 use indexmap::IndexMap;
 use ja_assembly::{FIELD, argument_words, method_tag, parted, place_behind, size_of};
 use ja_base::{Bytes, Memory, Name};
-use ja_code::{Form, form_of};
+use ja_code::{Form, Opcode};
 use ja_listing::{Item, MemberName, Number, Operand};
 use ja_writable::Wants;
 use std::alloc::Global;
@@ -147,14 +147,14 @@ pub(crate) fn put_instruction(
     pool: &Wants,
     labels: &Labels,
     pc: u64,
-    opcode: u8,
+    opcode: Opcode,
     operand: &Operand,
 ) -> Result<(), Memory>
     requires { IsFew pool.now }
     ensures { OnOk result (out.new ≡ out.old ++ (opcode ∷ operand_bytes (pool_in pool.now) (places labels.now) pc (form_at opcode) operand.now)) }
 {
-    out.push(opcode)?;
-    put_operand(alloc, out, pool, labels, pc, form_of(opcode), operand)
+    out.push(opcode.number())?;
+    put_operand(alloc, out, pool, labels, pc, Some(opcode.form()), operand)
 }
 
 /// The instructions that come before the next method, the first of them at pc.

@@ -15,16 +15,10 @@ use crate::code_bytes::{Labels, put_instruction, put_instructions};
 use crate::method_bytes::{content_of, put_code};
 use ja_assembly::{constructor_of, labels_of, parted, place_behind};
 use ja_base::{Bytes, Memory, Name};
+use ja_code::Opcode;
 use ja_listing::{Frame, Item, Number, Operand};
 use ja_writable::Wants;
 use std::alloc::Global;
-
-/// Opcodes (JVM specification 6.5).
-const ALOAD_0: u8 = 42;
-
-const RETURN: u8 = 177;
-
-const INVOKESPECIAL: u8 = 183;
 
 /// The number 1: the flag of a public method, and the size of the constructor's stack and of its locals.
 const ONE: Number = Number {
@@ -51,11 +45,27 @@ fn constructor_code(
         pool,
         labels,
         0,
-        ALOAD_0,
+        Opcode::ALOAD_0,
         &Operand::Nothing,
     )?;
-    put_instruction(alloc, &mut code, pool, labels, 1, INVOKESPECIAL, &call)?;
-    put_instruction(alloc, &mut code, pool, labels, 4, RETURN, &Operand::Nothing)?;
+    put_instruction(
+        alloc,
+        &mut code,
+        pool,
+        labels,
+        1,
+        Opcode::INVOKESPECIAL,
+        &call,
+    )?;
+    put_instruction(
+        alloc,
+        &mut code,
+        pool,
+        labels,
+        4,
+        Opcode::RETURN,
+        &Operand::Nothing,
+    )?;
     put_instructions(alloc, &mut code, pool, labels, 5, behind)?;
     Ok(code)
 }

@@ -5,7 +5,7 @@ use Rattle.std.specs.List.{list_all}
 use Rattle.std.proofs.lemmas.Bool.{and_parts, or_cases, eqb-true, ltb-true}
 use Rattle.std.proofs.lemmas.Option.{slice_get-get_or}
 use Rattle.ja_pool.specs.Table.{Table, tags_of, dims_of, tag_at}
-use Rattle.ja_code.specs.declared.opcode.Entry.TheVariants.{Class}
+use Rattle.ja_code.specs.declared.form.Entry.TheVariants.{Class}
 use Rattle.ja_code.specs.declared.instr.RawInstr.{RawInstr}
 use Rattle.ja_code.specs.declared.handler.RawHandler.{RawHandler}
 use Rattle.ja_code.specs.declared.code.Code.{Code}

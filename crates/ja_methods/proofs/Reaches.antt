@@ -21,12 +21,13 @@ use Rattle.ja_ir.specs.Whole.{IsReachedAt, Runs}
 use Rattle.ja_class.specs.Meaning.{ClassSpelled}
 use Rattle.ja_class.specs.ClassFile.{IsSpelled}
 use Rattle.ja_lib.specs.Content.{Content}
-use Rattle.ja_kinds.specs.declared.behaviour.Behaviour.{Behaviour}
+use Rattle.ja_code.specs.declared.behaviour.Behaviour.{Behaviour}
 use Rattle.ja_kinds.specs.declared.effect.Effect.{Effect}
 use Rattle.ja_kinds.specs.declared.state.KindState.{KindState}
 use Rattle.ja_kinds.specs.declared.state.State.{State}
 use Rattle.ja_kinds.specs.declared.state.State.TheVariants.{Unreached, Known, Clash}
-use Rattle.ja_kinds.specs.Effect.{goes_on, branches, targets_of, may_return, Does, IsOneOf, LeadsTo}
+use Rattle.ja_kinds.specs.Effect.{targets_of, may_return, Does, IsOneOf, LeadsTo}
+use Rattle.ja_code.specs.Behaviour.{goes_on, branches}
 use Rattle.ja_kinds.specs.Solution.{HandledAt}
 use Rattle.ja_kinds.specs.Answer.{AreKindsOf, known_of}
 use Rattle.ja_kinds.specs.Reached.{StartsAt, IsKnown, IsAccepted, IsReached, AreReached}

@@ -1,13 +1,13 @@
 -- Instructions that branch name a place.
 use Rattle.std.proofs.Common.{◌≡◌, ℕ, ◌+◌, ◌<◌, true, false, inl, inr, List, length, Option, Some, refl, sym, ap, subst, ◌∙◌, arith}
-use Rattle.ja_code.specs.declared.opcode.Form.{Form}
+use Rattle.ja_code.specs.declared.form.Form.{Form}
 use Rattle.ja_code.specs.declared.instr.RawInstr.{RawInstr}
 use Rattle.ja_code.specs.Opcode.{form_at}
 use Rattle.ja_code.specs.Grammar as grammar
 use Rattle.ja_code.specs.Grammar.{IsInstr, AreInstrs, is_branch}
-use Rattle.ja_kinds.specs.declared.behaviour.Behaviour.{Behaviour}
-use Rattle.ja_kinds.specs.Behaviour.{behaviour_at}
-use Rattle.ja_kinds.specs.Effect.{branches, IsOneOf}
+use Rattle.ja_code.specs.declared.behaviour.Behaviour.{Behaviour}
+use Rattle.ja_code.specs.Behaviour.{behaviour_at, branches}
+use Rattle.ja_kinds.specs.Effect.{IsOneOf}
 use Rattle.ja_kinds.proofs.Opcodes.{branches_are}
 
 no_branch : (o : Option Form) (form : Form) → o ≡ Some form → is_branch (Some form) ≡ false → is_branch o ≡ true → ⊥

@@ -32,10 +32,10 @@ use Rattle.ja_class.specs.Meaning.{ClassSpelled, is_static}
 use Rattle.ja_class.specs.ClassFile.{IsSpelled}
 use Rattle.ja_lib.specs.Content.{Content, IsCategorized}
 use Rattle.ja_supertypes.specs.Supertypes.{class_named, names_of}
-use Rattle.ja_kinds.specs.declared.behaviour.Behaviour.{Behaviour}
-use Rattle.ja_kinds.specs.Behaviour.{behaviour_at}
+use Rattle.ja_code.specs.declared.behaviour.Behaviour.{Behaviour}
+use Rattle.ja_code.specs.Behaviour.{behaviour_at, goes_on}
 use Rattle.ja_kinds.specs.Frame.{filled, parameter_words, words}
-use Rattle.ja_kinds.specs.Effect.{kind_of_type, goes_on, targets_of, may_return, IsOneOf}
+use Rattle.ja_kinds.specs.Effect.{kind_of_type, targets_of, may_return, IsOneOf}
 use Rattle.ja_kinds.specs.Answer.{parameter_kinds}
 use Rattle.ja_kinds.specs.Reached.{StartsAt, AreReached}
 use Rattle.ja_kinds.proofs.Reached.{all_reached}

@@ -2,9 +2,9 @@
 use Rattle.std.specs.Prelude.{ℕ, ◌+◌, ◌&&◌, Bool, List, [], ◌∷◌, ◌++◌, Option, Some, None, length, map, nat_le, nat_lt, if◌then◌else◌}
 use Rattle.std.specs.List.{position_or_len}
 use Rattle.ja_code.specs.declared.instr.RawInstr.{RawInstr}
-use Rattle.ja_kinds.specs.declared.behaviour.Behaviour.{Behaviour}
-use Rattle.ja_kinds.specs.Behaviour.{behaviour_at}
-use Rattle.ja_kinds.specs.Effect.{goes_on, targets_of}
+use Rattle.ja_code.specs.declared.behaviour.Behaviour.{Behaviour}
+use Rattle.ja_code.specs.Behaviour.{behaviour_at, goes_on}
+use Rattle.ja_kinds.specs.Effect.{targets_of}
 
 -- an instruction begins at a place of the code, or past it
 abbrev pub is_at_or_past : (place : ℕ) → RawInstr → Bool

@@ -1,39 +1,14 @@
 ghost use Rattle.std.specs.Prelude.{◌≡◌, ◌+◌, ◌++◌, ◌<◌, ◌≤◌, ◌^◌, length, map, IfOk, OnOk, slice_get, Some};
 ghost use Rattle.std.specs.List.Sorted.{IsNonDecreasingBy};
 ghost use Rattle.ja_code.specs.declared.instr.RawInstr.{RawInstr};
-ghost use Rattle.ja_kinds.specs.Effect.{goes_on, branches, targets_of};
+ghost use Rattle.ja_kinds.specs.Effect.{targets_of};
+ghost use Rattle.ja_code.specs.Behaviour.{goes_on, branches};
 ghost use Rattle.ja_methods.specs.Places.{index_of, following, next_by, next_of};
 
 use crate::place::index_of;
 use ja_base::{Memory, Numbers, Seq};
-use ja_code::RawInstr;
-use ja_kinds::{Behaviour, behaviour_of};
+use ja_code::{Behaviour, RawInstr};
 use std::alloc::Global;
-
-/// Whether the next instruction in the code may come after one.
-fn goes_on(behaviour: Behaviour) -> bool
-    ensures { result ≡ goes_on behaviour }
-{
-    match behaviour {
-        Behaviour::Jump => false,
-        Behaviour::Switch => false,
-        Behaviour::Return(_) => false,
-        Behaviour::Throw => false,
-        _ => true,
-    }
-}
-
-/// Whether the operands of an instruction are places where it may go.
-fn branches(behaviour: Behaviour) -> bool
-    ensures { result ≡ branches behaviour }
-{
-    match behaviour {
-        Behaviour::Test(_) => true,
-        Behaviour::Jump => true,
-        Behaviour::Switch => true,
-        _ => false,
-    }
-}
 
 /// The indices of the instructions at these places.
 fn indices_of(alloc: Global, instrs: &[RawInstr], places: &[u64]) -> Result<Numbers, Memory>
@@ -57,7 +32,7 @@ fn targets(
     requires { IsNonDecreasingBy (λ (i : RawInstr). i.pc) instrs.now }
     ensures { IfOk result (λ list. list ≡ map (index_of instrs.now) (targets_of behaviour instr.now)) }
 {
-    if branches(behaviour) {
+    if behaviour.branches() {
         indices_of(alloc, instrs, instr.operands.as_slice())
     } else {
         Ok(Seq::new(alloc))
@@ -83,11 +58,11 @@ pub fn next_of(alloc: Global, instrs: &[RawInstr], k: usize) -> Result<Numbers, 
     ensures { (instr : RawInstr) → slice_get instrs.now k ≡ Some instr → IfOk result (λ list. list ≡ next_of instrs.now k instr) }
 {
     let instr = &instrs[k];
-    match behaviour_of(instr.opcode) {
+    match instr.opcode.behaviour() {
         None => Ok(Seq::new(alloc)),
         Some(behaviour) => {
             let mut list = targets(alloc, instrs, instr, behaviour)?;
-            push_following(&mut list, goes_on(behaviour), k, instrs.len())?;
+            push_following(&mut list, behaviour.goes_on(), k, instrs.len())?;
             Ok(list)
         }
     }

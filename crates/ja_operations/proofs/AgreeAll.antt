@@ -1,7 +1,7 @@
 -- Each operation agrees with the kinds of its instruction.
-use Rattle.std.proofs.Common.{◌≡◌, ℕ, ◌+◌, ◌-◌, ◌||◌, Bool, true, false, List, [], ◌∷◌, length, map, Option, Some, None, refl, sym, ap, subst, ◌∙◌, arith}
+use Rattle.std.proofs.Common.{◌≡◌, ℕ, ◌+◌, ◌-◌, ◌||◌, Bool, true, false, List, [], ◌∷◌, ◌++◌, length, map, Option, Some, None, refl, sym, ap, subst, ◌∙◌, arith}
 use Rattle.std.specs.Prelude.{nat_eq, not, option_map, replicate, if◌then◌else◌}
-use Rattle.std.proofs.lemmas.List.{length-replicate, length-map}
+use Rattle.std.proofs.lemmas.List.{length-append, length-replicate, length-map}
 use Rattle.ja_base.specs.declared.java_type.Kind.{Kind}
 use Rattle.ja_base.specs.declared.java_type.Kind.TheVariants.{P1, R}
 use Rattle.ja_base.specs.declared.java_type.JavaType.{JavaType}
@@ -21,11 +21,15 @@ use Rattle.ja_kinds.specs.declared.state.KindState.{KindState}
 use Rattle.ja_kinds.specs.declared.frame.Frame.{Frame}
 use Rattle.ja_kinds.specs.declared.effect.Effect.{Effect}
 use Rattle.ja_kinds.specs.declared.effect.Effect.TheVariants.{Loads, Stores, Counts, Moves, Exchanges, Leaves}
-use Rattle.ja_kinds.specs.declared.behaviour.Rearrangement.{Rearrangement}
-use Rattle.ja_kinds.specs.declared.behaviour.Behaviour.{Behaviour}
-use Rattle.ja_kinds.specs.declared.behaviour.Behaviour.TheVariants as does
-use Rattle.ja_kinds.specs.Behaviour.{behaviour_at}
-use Rattle.ja_kinds.specs.Effect.{operand_at, place_of, kinds_of, kinds_in, kind_of_type, turned, goes_on, branches, NamesMethod, HasEffect, fixed, loaded, field, method, Does}
+use Rattle.ja_code.specs.declared.behaviour.Rearrangement.{Rearrangement}
+use Rattle.ja_code.specs.declared.behaviour.Behaviour.{Behaviour}
+use Rattle.ja_code.specs.declared.behaviour.FieldAccess.TheVariants.{GetStatic, PutStatic, GetField, PutField}
+use Rattle.ja_code.specs.declared.behaviour.Behaviour.TheVariants as does
+use Rattle.ja_code.specs.declared.behaviour.Invocation.{Invocation}
+use Rattle.ja_code.specs.declared.behaviour.Invocation.TheVariants as invocations
+use Rattle.ja_code.specs.Behaviour.{behaviour_at, goes_on, branches}
+use Rattle.ja_kinds.specs.Effect.{place_of, kinds_of, kinds_in, kind_of_type, receiver_of, turned, NamesMethod, HasEffect, fixed, loaded, field, method, Does}
+use Rattle.ja_code.specs.Grammar.{operand_at}
 use Rattle.ja_kinds.specs.Solution.{accepted}
 use Rattle.ja_operations.specs.declared.member.MemberRef.{MemberRef}
 use Rattle.ja_operations.specs.Names.{member_in}
@@ -56,25 +60,25 @@ module _ (pool : Table) (i : RawInstr) where
   loaded_swaps e (field n p) = absurd (cc p)
   loaded_swaps e (method n p) = absurd (cc p)
 
-  get_static_swaps : (e : Effect) → HasEffect pool i does.GetStatic e → Swaps e 0 1
+  get_static_swaps : (e : Effect) → HasEffect pool i (does.Access GetStatic) e → Swaps e 0 1
   get_static_swaps e (fixed p) = absurd (cc p)
   get_static_swaps e (loaded t p) = absurd (cc p)
   get_static_swaps e (field {kind} n p) = record { low = []; high = kind ∷ []; is = (let q : Exchanges [] (kind ∷ []) ≡ e = cc p in sym q); size_low = refl; size_high = refl }
   get_static_swaps e (method n p) = absurd (cc p)
 
-  put_static_swaps : (e : Effect) → HasEffect pool i does.PutStatic e → Swaps e 1 0
+  put_static_swaps : (e : Effect) → HasEffect pool i (does.Access PutStatic) e → Swaps e 1 0
   put_static_swaps e (fixed p) = absurd (cc p)
   put_static_swaps e (loaded t p) = absurd (cc p)
   put_static_swaps e (field {kind} n p) = record { low = kind ∷ []; high = []; is = (let q : Exchanges (kind ∷ []) [] ≡ e = cc p in sym q); size_low = refl; size_high = refl }
   put_static_swaps e (method n p) = absurd (cc p)
 
-  get_field_swaps : (e : Effect) → HasEffect pool i does.GetField e → Swaps e 1 1
+  get_field_swaps : (e : Effect) → HasEffect pool i (does.Access GetField) e → Swaps e 1 1
   get_field_swaps e (fixed p) = absurd (cc p)
   get_field_swaps e (loaded t p) = absurd (cc p)
   get_field_swaps e (field {kind} n p) = record { low = R ∷ []; high = kind ∷ []; is = (let q : Exchanges (R ∷ []) (kind ∷ []) ≡ e = cc p in sym q); size_low = refl; size_high = refl }
   get_field_swaps e (method n p) = absurd (cc p)
 
-  put_field_swaps : (e : Effect) → HasEffect pool i does.PutField e → Swaps e 2 0
+  put_field_swaps : (e : Effect) → HasEffect pool i (does.Access PutField) e → Swaps e 2 0
   put_field_swaps e (fixed p) = absurd (cc p)
   put_field_swaps e (loaded t p) = absurd (cc p)
   put_field_swaps e (field {kind} n p) = record { low = R ∷ kind ∷ []; high = []; is = (let q : Exchanges (R ∷ kind ∷ []) [] ≡ e = cc p in sym q); size_low = refl; size_high = refl }
@@ -97,27 +101,16 @@ module _ (pool : Table) (i : RawInstr) where
         kinds_given n.result given n.gives
         ∙ ap (λ (o : Option JavaType). result_count o) (reading (member_desc_at pool (operand_at i 0)) n.params params n.result res n.method types).1
 
-    invoke_swaps : (e : Effect) → HasEffect pool i does.Invoke e → Swaps e (1 + length params) (result_count res)
-    invoke_swaps e (fixed p) = absurd (cc p)
-    invoke_swaps e (loaded t p) = absurd (cc p)
-    invoke_swaps e (field n p) = absurd (cc p)
-    invoke_swaps e (method {taken} {given} n p) = record {
-      low = R ∷ taken;
+    invoke_swaps : (how : Invocation) (e : Effect) → HasEffect pool i (does.Invoke how) e
+        → Swaps e (length (receiver_of how) + length params) (result_count res)
+    invoke_swaps how e (fixed p) = absurd (cc p)
+    invoke_swaps how e (loaded t p) = absurd (cc p)
+    invoke_swaps how e (field n p) = absurd (cc p)
+    invoke_swaps how e (method {taken} {given} n p) = record {
+      low = receiver_of how ++ taken;
       high = kinds_in given;
-      is = (let q : Exchanges (R ∷ taken) (kinds_in given) ≡ e = cc p in sym q);
-      size_low = omega (arith, taken_size taken given n);
-      size_high = given_size taken given n;
-    }
-
-    static_swaps : (e : Effect) → HasEffect pool i does.InvokeStatic e → Swaps e (length params) (result_count res)
-    static_swaps e (fixed p) = absurd (cc p)
-    static_swaps e (loaded t p) = absurd (cc p)
-    static_swaps e (field n p) = absurd (cc p)
-    static_swaps e (method {taken} {given} n p) = record {
-      low = taken;
-      high = kinds_in given;
-      is = (let q : Exchanges taken (kinds_in given) ≡ e = cc p in sym q);
-      size_low = taken_size taken given n;
+      is = (let q : Exchanges (receiver_of how ++ taken) (kinds_in given) ≡ e = cc p in sym q);
+      size_low = length-append (receiver_of how) taken ∙ ap (λ (n : ℕ). length (receiver_of how) + n) (taken_size taken given n);
       size_high = given_size taken given n;
     }
 
@@ -149,13 +142,11 @@ loaded_agrees heads f g tag ch = by_tests (nat_eq tag 8) (nat_eq tag 7)
     by_tests false true = record { operands = ch.there; locals = tt; height = ch.left }
     by_tests false false = record { operands = ch.there; locals = tt; height = ch.left }
 
-call_receives : (opcode : ℕ) → has_receiver (call_kind opcode) ≡ true
-call_receives opcode = by_tests (nat_eq opcode 182) (nat_eq opcode 183)
-  where
-    by_tests : (a b : Bool) → has_receiver (if a then Virtual else if b then Special else Interface) ≡ true
-    by_tests true b = refl
-    by_tests false true = refl
-    by_tests false false = refl
+call_receives : (how : Invocation) → count_of (has_receiver (call_kind how)) ≡ length (receiver_of how)
+call_receives invocations.Virtual = refl
+call_receives invocations.Special = refl
+call_receives invocations.Static = refl
+call_receives invocations.Interface = refl
 
 count_some : (kind : Option Kind) → length (kinds_in kind) ≡ result_count kind
 count_some None = refl
@@ -172,21 +163,13 @@ module _ (effect_law : OneEffect) (reading : OneMethod) (heads : List ClassHead)
   accesses own foreign op ours theirs (fields.of_program {f = x} p) = ours x
   accesses own foreign op ours theirs (fields.of_library {call = call} p r) = agrees_as f g (ops.Call call) (ops.Call (foreign r.type)) (ap ops.Call r.is) (theirs r.type)
 
-  invoked : (op : Op) (b : Behaviour) → Calls heads rows c (call_kind i.opcode) (member_in pool i) op → HasEffect pool i does.Invoke effect → Agrees op f g
-  invoked op b calls has =
-      let ch = swap_changes frame f g effect (1 + length calls.call.params) (result_count calls.call.result) t
-      (invoke_swaps pool i reading calls.call.params calls.call.result calls.made.types effect has) in
-      let receives : has_receiver calls.call.kind ≡ true = ap has_receiver calls.made.kind_is ∙ call_receives i.opcode in
-      let size : arguments calls.call ≡ 1 + length calls.call.params = ap (λ (b : Bool). count_of b + length calls.call.params) receives in
-      agrees_as f g op (ops.Call calls.call) calls.is
-      (record { operands = omega (arith, ch.there, size); locals = tt; height = ap (λ (n : ℕ). (length f.stack - n) + result_count calls.call.result) size ∙ ch.left })
-
-  invoked_static : (op : Op) → Calls heads rows c Static (member_in pool i) op → HasEffect pool i does.InvokeStatic effect → Agrees op f g
-  invoked_static op calls has =
-      let ch = swap_changes frame f g effect (length calls.call.params) (result_count calls.call.result) t
-      (static_swaps pool i reading calls.call.params calls.call.result calls.made.types effect has) in
-      let size : arguments calls.call ≡ length calls.call.params =
-      ap (λ (k : CallKind). count_of (has_receiver k) + length calls.call.params) calls.made.kind_is ∙ omega arith in
+  invoked : (how : Invocation) (op : Op) → Calls heads rows c (call_kind how) (member_in pool i) op → HasEffect pool i (does.Invoke how) effect → Agrees op f g
+  invoked how op calls has =
+      let ch = swap_changes frame f g effect (length (receiver_of how) + length calls.call.params) (result_count calls.call.result) t
+      (invoke_swaps pool i reading calls.call.params calls.call.result calls.made.types how effect has) in
+      let receives : count_of (has_receiver calls.call.kind) ≡ length (receiver_of how) =
+      ap (λ (k : CallKind). count_of (has_receiver k)) calls.made.kind_is ∙ call_receives how in
+      let size : arguments calls.call ≡ length (receiver_of how) + length calls.call.params = ap (λ (n : ℕ). n + length calls.call.params) receives in
       agrees_as f g op (ops.Call calls.call) calls.is
       (record { operands = omega (arith, ch.there, size); locals = tt; height = ap (λ (n : ℕ). (length f.stack - n) + result_count calls.call.result) size ∙ ch.left })
 
@@ -240,28 +223,27 @@ module _ (effect_law : OneEffect) (reading : OneMethod) (heads : List ClassHead)
         locals = tt;
         height = ap (λ (n : ℕ). (length f.stack - n) + 0) (sym (count_some kind)) ∙ l.1.left;
       })
-  agree_by shuffles does.GetStatic op p has =
+  agree_by shuffles (does.Access GetStatic) op p has =
       let ch = swap_changes frame f g effect 0 1 t (get_static_swaps pool i effect has) in
       accesses ops.GetStatic (static_read rows.categories (member_in pool i)) op
       (λ x. record { operands = ch.there; locals = tt; height = ch.left }) (λ type. record { operands = ch.there; locals = tt; height = ch.left }) p
-  agree_by shuffles does.PutStatic op (fields.static_of_program p) has =
+  agree_by shuffles (does.Access PutStatic) op (fields.static_of_program p) has =
       let ch = swap_changes frame f g effect 1 0 t (put_static_swaps pool i effect has) in
       record { operands = ch.there; locals = tt; height = ch.left }
-  agree_by shuffles does.GetField op p has =
+  agree_by shuffles (does.Access GetField) op p has =
       let ch = swap_changes frame f g effect 1 1 t (get_field_swaps pool i effect has) in
       accesses ops.GetField (member_read rows.categories (member_in pool i)) op
       (λ x. record { operands = ch.there; locals = tt; height = ch.left }) (λ type. record { operands = ch.there; locals = tt; height = ch.left }) p
-  agree_by shuffles does.PutField op p has =
+  agree_by shuffles (does.Access PutField) op p has =
       let ch = swap_changes frame f g effect 2 0 t (put_field_swaps pool i effect has) in
       accesses ops.PutField (member_write rows.categories (member_in pool i)) op
       (λ x. record { operands = ch.there; locals = tt; height = ch.left }) (λ type. record { operands = ch.there; locals = tt; height = ch.left }) p
-  agree_by shuffles does.Invoke op p has = invoked op does.Invoke p has
-  agree_by shuffles does.InvokeStatic op p has = invoked_static op p has
+  agree_by shuffles (does.Invoke how) op p has = invoked how op p has
   agree_by shuffles does.New op p has =
       let ch = swapped does.New [] (R ∷ []) has (fixed refl) in
       agrees_as f g op _ p (record { operands = ch.there; locals = tt; height = ch.left })
-  agree_by shuffles does.NewArray op p has =
-      let ch = swapped does.NewArray (P1 ∷ []) (R ∷ []) has (fixed refl) in
+  agree_by shuffles (does.NewArray elements) op p has =
+      let ch = swapped (does.NewArray elements) (P1 ∷ []) (R ∷ []) has (fixed refl) in
       agrees_as f g op _ p (record { operands = ch.there; locals = tt; height = ch.left })
   agree_by shuffles does.NewArrays op p has =
       let ch = swapped does.NewArrays (replicate (operand_at i 1) P1) (R ∷ []) has (fixed refl) in
@@ -335,14 +317,13 @@ module _ (heads : List ClassHead) (rows : Content) (c : ℕ) (pool : Table) (i :
   ends_by does.Jump op p = ends_as op _ false p refl
   ends_by does.Switch op p = ends_as op _ false p refl
   ends_by (does.Return kind) op p = ends_as op _ true p refl
-  ends_by does.GetStatic op p = ends_access heads (member_in pool i) _ _ op (λ x. refl) p
-  ends_by does.PutStatic op (fields.static_of_program p) = refl
-  ends_by does.GetField op p = ends_access heads (member_in pool i) _ _ op (λ x. refl) p
-  ends_by does.PutField op p = ends_access heads (member_in pool i) _ _ op (λ x. refl) p
-  ends_by does.Invoke op p = ends_as op _ false p.is refl
-  ends_by does.InvokeStatic op p = ends_as op _ false p.is refl
+  ends_by (does.Access GetStatic) op p = ends_access heads (member_in pool i) _ _ op (λ x. refl) p
+  ends_by (does.Access PutStatic) op (fields.static_of_program p) = refl
+  ends_by (does.Access GetField) op p = ends_access heads (member_in pool i) _ _ op (λ x. refl) p
+  ends_by (does.Access PutField) op p = ends_access heads (member_in pool i) _ _ op (λ x. refl) p
+  ends_by (does.Invoke how) op p = ends_as op _ false p.is refl
   ends_by does.New op p = ends_as op _ false p refl
-  ends_by does.NewArray op p = ends_as op _ false p refl
+  ends_by (does.NewArray elements) op p = ends_as op _ false p refl
   ends_by does.NewArrays op p = ends_as op _ false p refl
   ends_by does.ArrayLength op p = ends_as op _ false p refl
   ends_by does.Throw op p = ends_as op _ true p refl

@@ -23,8 +23,9 @@ use Rattle.ja_lib.specs.declared.row.TableRow.{TableRow}
 use Rattle.ja_lib.specs.Content.{Content, IsCategorized, IsMeaningAbout, all_marks}
 use Rattle.ja_lib.specs.Rows.{fits, row_for}
 use Rattle.ja_kinds.specs.declared.state.KindState.{KindState}
-use Rattle.ja_kinds.specs.declared.behaviour.Behaviour.{Behaviour}
-use Rattle.ja_kinds.specs.declared.behaviour.Behaviour.TheVariants as does
+use Rattle.ja_code.specs.declared.behaviour.Behaviour.{Behaviour}
+use Rattle.ja_code.specs.declared.behaviour.FieldAccess.TheVariants.{GetStatic, PutStatic, GetField, PutField}
+use Rattle.ja_code.specs.declared.behaviour.Behaviour.TheVariants as does
 use Rattle.ja_operations.specs.declared.member.MemberRef.{MemberRef}
 use Rattle.ja_operations.specs.Names.{member_in, tag_named}
 use Rattle.ja_operations.specs.Tokens.{library_token}
@@ -108,17 +109,16 @@ module _ (heads : List ClassHead) (table : Content) (whole : IsCategorized table
 
   about_by : (b : Behaviour) (op : Op) → OperatesAs heads table c pool i before b op → IsRowAbout names op
   about_by does.Loaded op p = about_as names op _ p (loaded_about names heads (tag_named pool i))
-  about_by does.GetStatic op p =
+  about_by (does.Access GetStatic) op p =
       about_access names heads (member_in pool i) ops.GetStatic (static_read names (member_in pool i)) op (λ x. tt) (λ type. every_mark names (static_read names (member_in pool i) type).row refl refl) p
-  about_by does.PutStatic op (fields.static_of_program p) = tt
-  about_by does.GetField op p =
+  about_by (does.Access PutStatic) op (fields.static_of_program p) = tt
+  about_by (does.Access GetField) op p =
       about_access names heads (member_in pool i) ops.GetField (member_read names (member_in pool i)) op (λ x. tt) (λ type. every_mark names (member_read names (member_in pool i) type).row refl refl) p
-  about_by does.PutField op p =
+  about_by (does.Access PutField) op p =
       about_access names heads (member_in pool i) ops.PutField (member_write names (member_in pool i)) op (λ x. tt) (λ type. every_mark names (member_write names (member_in pool i) type).row refl refl) p
-  about_by does.Invoke op p = about_call (call_kind i.opcode) op p
-  about_by does.InvokeStatic op p = about_call Static op p
+  about_by (does.Invoke how) op p = about_call (call_kind how) op p
   about_by does.New op p = about_as names op _ p tt
-  about_by does.NewArray op p = about_as names op _ p tt
+  about_by (does.NewArray elements) op p = about_as names op _ p tt
   about_by does.NewArrays op p = about_as names op _ p tt
   about_by does.Nothing op p = about_as names op _ p tt
   about_by (does.Constant kind) op p = about_as names op _ p tt

@@ -22,9 +22,10 @@ use Rattle.ja_hier.specs.declared.skip.Skip.TheVariants.{NoMethod}
 use Rattle.ja_hier.specs.LookUps.{FindsField, Finds}
 use Rattle.ja_supertypes.specs.Supertypes.{class_named, object_name}
 use Rattle.ja_kinds.specs.declared.state.KindState.{KindState}
-use Rattle.ja_kinds.specs.declared.behaviour.Behaviour.{Behaviour}
-use Rattle.ja_kinds.specs.declared.behaviour.Behaviour.TheVariants as does
-use Rattle.ja_kinds.specs.Behaviour.{behaviour_at}
+use Rattle.ja_code.specs.declared.behaviour.Behaviour.{Behaviour}
+use Rattle.ja_code.specs.declared.behaviour.FieldAccess.TheVariants.{GetStatic, PutStatic, GetField, PutField}
+use Rattle.ja_code.specs.declared.behaviour.Behaviour.TheVariants as does
+use Rattle.ja_code.specs.Behaviour.{behaviour_at}
 use Rattle.ja_operations.specs.declared.member.MemberRef.{MemberRef}
 use Rattle.ja_operations.specs.declared.fault.OpFault.{OpFault}
 use Rattle.ja_supertypes.specs.LibraryTypes.{AreLibraryTypes}
@@ -192,12 +193,11 @@ module _ (heads : List ClassHead) (rows : Content)
 
   module _ (c : ℕ) (pool : Table) (i : RawInstr) (before : Option KindState) where
     one_operates : (b : Behaviour) (x y : Op) → OperatesAs heads rows c pool i before b x → OperatesAs heads rows c pool i before b y → x ≡ y
-    one_operates does.GetStatic x y p q = one_access heads field_law (member_in pool i) _ _ reading x y p q
-    one_operates does.PutStatic x y p q = one_write heads field_law (member_in pool i) _ x y p q
-    one_operates does.GetField x y p q = one_access heads field_law (member_in pool i) _ _ reading x y p q
-    one_operates does.PutField x y p q = one_access heads field_law (member_in pool i) _ _ reading x y p q
-    one_operates does.Invoke x y p q = one_calls c _ (member_in pool i) x y p q
-    one_operates does.InvokeStatic x y p q = one_calls c _ (member_in pool i) x y p q
+    one_operates (does.Access GetStatic) x y p q = one_access heads field_law (member_in pool i) _ _ reading x y p q
+    one_operates (does.Access PutStatic) x y p q = one_write heads field_law (member_in pool i) _ x y p q
+    one_operates (does.Access GetField) x y p q = one_access heads field_law (member_in pool i) _ _ reading x y p q
+    one_operates (does.Access PutField) x y p q = one_access heads field_law (member_in pool i) _ _ reading x y p q
+    one_operates (does.Invoke how) x y p q = one_calls c _ (member_in pool i) x y p q
     one_operates b x y p q = p ∙ sym q
 
     -- an instruction has one operation
@@ -211,12 +211,11 @@ module _ (heads : List ClassHead) (rows : Content)
     call_right member kind op fault p (thread_start e s) = p.made.no_thread s
 
     not_refused : (b : Behaviour) (op : Op) (fault : OpFault) → OperatesAs heads rows c pool i before b op → Refuses heads c pool i b fault → ⊥
-    not_refused does.GetStatic op fault p q = access_right heads field_law (member_in pool i) _ _ op fault p q
-    not_refused does.PutStatic op fault p q = write_right heads field_law (member_in pool i) _ op fault p q
-    not_refused does.GetField op fault p q = access_right heads field_law (member_in pool i) _ _ op fault p q
-    not_refused does.PutField op fault p q = access_right heads field_law (member_in pool i) _ _ op fault p q
-    not_refused does.Invoke op fault p q = call_right (member_in pool i) _ op fault p q
-    not_refused does.InvokeStatic op fault p q = call_right (member_in pool i) _ op fault p q
+    not_refused (does.Access GetStatic) op fault p q = access_right heads field_law (member_in pool i) _ _ op fault p q
+    not_refused (does.Access PutStatic) op fault p q = write_right heads field_law (member_in pool i) _ op fault p q
+    not_refused (does.Access GetField) op fault p q = access_right heads field_law (member_in pool i) _ _ op fault p q
+    not_refused (does.Access PutField) op fault p q = access_right heads field_law (member_in pool i) _ _ op fault p q
+    not_refused (does.Invoke how) op fault p q = call_right (member_in pool i) _ op fault p q
     not_refused b op fault p q = q
 
     -- an instruction with an operation is not refused
@@ -233,12 +232,11 @@ module _ (heads : List ClassHead) (rows : Content)
 
   module _ (c : ℕ) (pool : Table) (i : RawInstr) where
     one_refuses : (b : Behaviour) (x y : OpFault) → Refuses heads c pool i b x → Refuses heads c pool i b y → x ≡ y
-    one_refuses does.GetStatic x y p q = one_refused_access heads field_law (member_in pool i) x y p q
-    one_refuses does.PutStatic x y p q = one_refused_store heads field_law (member_in pool i) x y p q
-    one_refuses does.GetField x y p q = one_refused_access heads field_law (member_in pool i) x y p q
-    one_refuses does.PutField x y p q = one_refused_access heads field_law (member_in pool i) x y p q
-    one_refuses does.Invoke x y p q = one_refused_call c (call_kind i.opcode) (member_in pool i) x y p q
-    one_refuses does.InvokeStatic x y p q = one_refused_call c Static (member_in pool i) x y p q
+    one_refuses (does.Access GetStatic) x y p q = one_refused_access heads field_law (member_in pool i) x y p q
+    one_refuses (does.Access PutStatic) x y p q = one_refused_store heads field_law (member_in pool i) x y p q
+    one_refuses (does.Access GetField) x y p q = one_refused_access heads field_law (member_in pool i) x y p q
+    one_refuses (does.Access PutField) x y p q = one_refused_access heads field_law (member_in pool i) x y p q
+    one_refuses (does.Invoke how) x y p q = one_refused_call c (call_kind how) (member_in pool i) x y p q
     one_refuses b x y p q = absurd p
 
     -- an instruction has one refusal

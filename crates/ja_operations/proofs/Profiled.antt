@@ -5,20 +5,21 @@ use Rattle.std.specs.List.{prefix_len}
 use Rattle.std.proofs.lemmas.List.{length-take}
 use Rattle.std.proofs.lemmas.Bool.{and_parts, cases_lt, leb-true, lt-leb, eqb-true}
 use Rattle.ja_pool.specs.Table.{Table, entry_tag, entry_first, tags_of, dims_in, dims_of, tag_at, text_at, is_bracket, brackets_of}
-use Rattle.ja_code.specs.declared.opcode.Entry.{Entry}
-use Rattle.ja_code.specs.declared.opcode.Entry.TheVariants.{Loadable, TwoWord, Field, Method, InterfaceMethod, AnyMethod, Class}
-use Rattle.ja_code.specs.declared.opcode.Form.{Form}
-use Rattle.ja_code.specs.declared.opcode.Form.TheVariants.{Plain, Byte, Short, Local, Increment, ByteIndex, Index, Interface, ArrayType, Dimensions, Branch, FarBranch, TableSwitch, LookupSwitch}
+use Rattle.ja_code.specs.declared.form.Entry.{Entry}
+use Rattle.ja_code.specs.declared.form.Entry.TheVariants.{Loadable, TwoWord, Field, Method, InterfaceMethod, AnyMethod, Class}
+use Rattle.ja_code.specs.declared.form.Form.{Form}
+use Rattle.ja_code.specs.declared.form.Form.TheVariants.{Plain, Byte, Short, Local, Increment, ByteIndex, Index, Interface, ArrayType, Dimensions, Branch, FarBranch, TableSwitch, LookupSwitch}
 use Rattle.ja_code.specs.declared.instr.RawInstr.{RawInstr}
 use Rattle.ja_code.specs.Opcode.{form_at}
 use Rattle.ja_code.specs.Bytes.{u2}
 use Rattle.ja_code.specs.Grammar as grammar
-use Rattle.ja_code.specs.Grammar.{Takes, Names, IsInstr, AreInstrs}
-use Rattle.ja_kinds.specs.declared.behaviour.Behaviour.{Behaviour}
-use Rattle.ja_kinds.specs.declared.behaviour.Behaviour.TheVariants as does
+use Rattle.ja_code.specs.Grammar.{Takes, Names, IsInstr, AreInstrs, operand_at}
+use Rattle.ja_code.specs.declared.behaviour.Behaviour.{Behaviour}
+use Rattle.ja_code.specs.declared.behaviour.Behaviour.TheVariants as does
 use Rattle.ja_kinds.specs.declared.effect.Effect.{Effect}
-use Rattle.ja_kinds.specs.Behaviour.{Run, runs, behaviour_in, behaviour_at}
-use Rattle.ja_kinds.specs.Effect.{operand_at, HasEffect, fixed, loaded, field, method, Does, IsOneOf}
+use Rattle.ja_code.specs.Behaviour.{behaviour_at}
+use Rattle.ja_kinds.specs.Effect.{HasEffect, fixed, loaded, field, method, Does, IsOneOf}
+use Rattle.ja_code.proofs.Rows.{no_behaviour}
 use Rattle.ja_operations.specs.Names.{tag_named}
 use Rattle.ja_operations.specs.Profile.{Suits, IsProfiled}
 
@@ -34,30 +35,14 @@ module _ (pool : Table) (i : RawInstr) where
   NamesClassAs _ = Unit {0}
 
   suits : (b : Behaviour) (e : Effect) → HasEffect pool i b e → NamesClassAs b → Suits pool i b
-  suits does.GetStatic e (fixed p) class = absurd (cc p)
-  suits does.GetStatic e (loaded t p) class = absurd (cc p)
-  suits does.GetStatic e (field n p) class = record { tag = n.member; desc = record { type = n.type; field = n.field } }
-  suits does.GetStatic e (method n p) class = absurd (cc p)
-  suits does.PutStatic e (fixed p) class = absurd (cc p)
-  suits does.PutStatic e (loaded t p) class = absurd (cc p)
-  suits does.PutStatic e (field n p) class = record { tag = n.member; desc = record { type = n.type; field = n.field } }
-  suits does.PutStatic e (method n p) class = absurd (cc p)
-  suits does.GetField e (fixed p) class = absurd (cc p)
-  suits does.GetField e (loaded t p) class = absurd (cc p)
-  suits does.GetField e (field n p) class = record { tag = n.member; desc = record { type = n.type; field = n.field } }
-  suits does.GetField e (method n p) class = absurd (cc p)
-  suits does.PutField e (fixed p) class = absurd (cc p)
-  suits does.PutField e (loaded t p) class = absurd (cc p)
-  suits does.PutField e (field n p) class = record { tag = n.member; desc = record { type = n.type; field = n.field } }
-  suits does.PutField e (method n p) class = absurd (cc p)
-  suits does.Invoke e (fixed p) class = absurd (cc p)
-  suits does.Invoke e (loaded t p) class = absurd (cc p)
-  suits does.Invoke e (field n p) class = absurd (cc p)
-  suits does.Invoke e (method n p) class = record { tag = n.member; desc = record { params = n.params; result = n.result; method = n.method } }
-  suits does.InvokeStatic e (fixed p) class = absurd (cc p)
-  suits does.InvokeStatic e (loaded t p) class = absurd (cc p)
-  suits does.InvokeStatic e (field n p) class = absurd (cc p)
-  suits does.InvokeStatic e (method n p) class = record { tag = n.member; desc = record { params = n.params; result = n.result; method = n.method } }
+  suits (does.Access how) e (fixed p) class = absurd (cc p)
+  suits (does.Access how) e (loaded t p) class = absurd (cc p)
+  suits (does.Access how) e (field n p) class = record { tag = n.member; desc = record { type = n.type; field = n.field } }
+  suits (does.Access how) e (method n p) class = absurd (cc p)
+  suits (does.Invoke how) e (fixed p) class = absurd (cc p)
+  suits (does.Invoke how) e (loaded t p) class = absurd (cc p)
+  suits (does.Invoke how) e (field n p) class = absurd (cc p)
+  suits (does.Invoke how) e (method n p) class = record { tag = n.member; desc = record { params = n.params; result = n.result; method = n.method } }
   suits does.New e has class = class
   suits does.Cast e has class = class
   suits does.InstanceOf e has class = class
@@ -107,32 +92,12 @@ each_row : all_from row_suits 0 202 ≡ true
 unfolding form_at behaviour_at
 each_row = refl
 
--- no run goes past 201
-abbrev lasts_within : List Run → Bool
-lasts_within [] = true
-lasts_within (r ∷ rs) = leb r.last 201 && lasts_within rs
-
-skipped : (test : Bool) (x y : Option Behaviour) → test ≡ false → y ≡ None → cond test x y ≡ None
-skipped true x y e none = absurd cc
-skipped false x y e none = none
-
-past_runs : (rs : List Run) (op : ℕ) → lasts_within rs ≡ true → 201 < op → behaviour_in rs op ≡ None
-past_runs [] op within above = refl
-past_runs (r ∷ rs) op within above =
-    let parts : (leb r.last 201 ≡ true) × (lasts_within rs ≡ true) = and_parts (leb r.last 201) (lasts_within rs) within in
-    let low : r.last < op = omega (arith, leb-true r.last 201 parts.0) in
-    skipped (leb op r.last) (r.does op) (behaviour_in rs op) (lt-leb op r.last low) (past_runs rs op parts.1 above)
-
-past_all : (op : ℕ) → 201 < op → behaviour_at op ≡ None
-unfolding behaviour_at
-past_all op above = past_runs runs op refl above
-
 form_of : (op : ℕ) (b : Behaviour) → behaviour_at op ≡ Some b → form_suits b (form_at op) ≡ true
 form_of op b at = elim (cases_lt op 202) [
   | inl below ↦
       subst (λ (o : Option Behaviour). row_suits_as o (form_at op) ≡ true) at
       (subst (λ (n : ℕ). row_suits n ≡ true) (zero-add op) (all_at row_suits 0 202 op each_row below))
-  | inr past ↦ absurd (let none : behaviour_at op ≡ None = past_all op (omega arith) in cc (none, at))
+  | inr past ↦ absurd (let none : behaviour_at op ≡ None = no_behaviour op (omega arith) in cc (none, at))
 ]
 
 -- ---- from the bytes

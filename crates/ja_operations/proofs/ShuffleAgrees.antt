@@ -8,12 +8,12 @@ use Rattle.std.proofs.lemmas.Bool.{and_parts, cases_Bool}
 use Rattle.std.proofs.lemmas.Bool.Decides.{Decides-eqb, Decides-ltb}
 use Rattle.ja_base.specs.declared.java_type.Kind.{Kind}
 use Rattle.ja_base.specs.Kind.{words_of}
-use Rattle.ja_kinds.specs.declared.behaviour.Rearrangement.{Rearrangement}
-use Rattle.ja_kinds.specs.declared.behaviour.Rearrangement.TheVariants.{Pop, Pop2, Dup, DupX1, DupX2, Dup2, Dup2X1, Dup2X2, Swap}
+use Rattle.ja_code.specs.declared.behaviour.Rearrangement.{Rearrangement}
+use Rattle.ja_code.specs.declared.behaviour.Rearrangement.TheVariants.{Pop, Pop2, Dup, DupX1, DupX2, Dup2, Dup2X1, Dup2X2, Swap}
 use Rattle.ja_kinds.specs.declared.state.KindState.{KindState}
 use Rattle.ja_kinds.specs.declared.frame.Frame.{Frame}
 use Rattle.ja_kinds.specs.declared.effect.Effect.TheVariants.{Moves}
-use Rattle.ja_kinds.specs.Behaviour.{Move, moves_of}
+use Rattle.ja_code.specs.Behaviour.{Move, moves_of}
 use Rattle.ja_kinds.specs.Frame.{top, under}
 use Rattle.ja_kinds.specs.Effect.{IsOneOf, rearranged, with_stack, turned}
 use Rattle.ja_kinds.specs.Moving.{IsFitting, picked, stack_after, IsMovedTo}

@@ -24,13 +24,19 @@ use Rattle.ja_kinds.specs.declared.state.KindState.{KindState}
 use Rattle.ja_kinds.specs.declared.frame.Frame.{Frame}
 use Rattle.ja_kinds.specs.declared.effect.Effect.{Effect}
 use Rattle.ja_kinds.specs.declared.effect.Effect.TheVariants.{Leaves}
-use Rattle.ja_kinds.specs.declared.behaviour.Behaviour.{Behaviour}
-use Rattle.ja_kinds.specs.declared.behaviour.Behaviour.TheVariants as does
-use Rattle.ja_kinds.specs.Effect.{operand_at, may_return, HasEffect, fixed, Does}
+use Rattle.ja_code.specs.declared.behaviour.Behaviour.{Behaviour}
+use Rattle.ja_code.specs.declared.behaviour.FieldAccess.TheVariants.{GetStatic, PutStatic, GetField, PutField}
+use Rattle.ja_code.specs.declared.behaviour.Behaviour.TheVariants as does
+use Rattle.ja_code.specs.declared.behaviour.Invocation.{Invocation}
+use Rattle.ja_code.specs.declared.behaviour.Invocation.TheVariants as invocations
+use Rattle.ja_code.specs.declared.behaviour.Elements.{Elements}
+use Rattle.ja_code.specs.declared.behaviour.Elements.TheVariants.{Primitives, References}
+use Rattle.ja_kinds.specs.Effect.{may_return, HasEffect, fixed, Does}
+use Rattle.ja_code.specs.Grammar.{operand_at}
 use Rattle.ja_kinds.specs.Solution.{accepted}
 use Rattle.ja_operations.specs.declared.member.MemberRef.{MemberRef}
 use Rattle.ja_operations.specs.Names.{member_in, class_in}
-use Rattle.ja_operations.specs.Tokens.{library_token, references_token, primitives_token, token_of_some, is_primitive}
+use Rattle.ja_operations.specs.Tokens.{library_token, references_token, primitives_token, token_of_some, token_of_array, is_primitive}
 use Rattle.ja_operations.specs.Fields as fields
 use Rattle.ja_operations.specs.Fields.{CallsForeign, Accesses, static_read, member_read, member_write}
 use Rattle.ja_operations.specs.Targets.{call_kind, FindsFrom, FindsSome, IsFound}
@@ -53,6 +59,10 @@ some_token heads name (Some c) e = omega (arith, named_inside heads name c e)
 chosen_token : (heads : List ClassHead) (b : Bool) → (if b then primitives_token heads else references_token heads).0 < length heads + 4
 chosen_token heads true = omega arith
 chosen_token heads false = omega arith
+
+array_token : (heads : List ClassHead) (elements : Elements) → (token_of_array heads elements).0 < length heads + 4
+array_token heads Primitives = omega arith
+array_token heads References = omega arith
 
 loaded_sound : (heads : List ClassHead) (tag : ℕ) → IsSound heads (loaded_op heads tag)
 loaded_sound heads tag = by_tests (nat_eq tag 8) (nat_eq tag 7)
@@ -81,13 +91,11 @@ method_types Interface desc params res e m = m
 method_types StaticField desc params res e m = absurd (cc e)
 method_types MemberField desc params res e m = absurd (cc e)
 
-kind_of_method : (opcode : ℕ) → is_of_method (call_kind opcode) ≡ true
-kind_of_method opcode = by_tests (nat_eq opcode 182) (nat_eq opcode 183)
-  where
-    by_tests : (a b : Bool) → is_of_method (if a then Virtual else if b then Special else Interface) ≡ true
-    by_tests true b = refl
-    by_tests false true = refl
-    by_tests false false = refl
+kind_of_method : (how : Invocation) → is_of_method (call_kind how) ≡ true
+kind_of_method invocations.Virtual = refl
+kind_of_method invocations.Special = refl
+kind_of_method invocations.Static = refl
+kind_of_method invocations.Interface = refl
 
 module _ (heads : List ClassHead) where
   some_found : (class : List ℕ) (member : MemberRef) (found : Option MethodAt) (at : MethodAt) → FindsSome heads class member found → found ≡ Some at
@@ -134,20 +142,19 @@ module _ (heads : List ClassHead) where
   module _ (rows : Content) (c : ℕ) (pool : Table) (i : RawInstr) (before : Option KindState) where
     sound_by : (b : Behaviour) (op : Op) → OperatesAs heads rows c pool i before b op → IsSound heads op
     sound_by does.Loaded op p = sound_as op _ p (loaded_sound heads (tag_at pool (operand_at i 0)))
-    sound_by does.GetStatic op p =
+    sound_by (does.Access GetStatic) op p =
         access_sound (member_in pool i) ops.GetStatic (static_read rows.categories (member_in pool i)) op (λ x. tt)
         (λ type spelled. ((type, spelled, refl, refl), λ at e. no_answer at e)) p
-    sound_by does.PutStatic op (fields.static_of_program p) = tt
-    sound_by does.GetField op p =
+    sound_by (does.Access PutStatic) op (fields.static_of_program p) = tt
+    sound_by (does.Access GetField) op p =
         access_sound (member_in pool i) ops.GetField (member_read rows.categories (member_in pool i)) op (λ x. tt)
         (λ type spelled. ((type, spelled, inl (refl, refl)), λ at e. no_answer at e)) p
-    sound_by does.PutField op p =
+    sound_by (does.Access PutField) op p =
         access_sound (member_in pool i) ops.PutField (member_write rows.categories (member_in pool i)) op (λ x. tt)
         (λ type spelled. ((type, spelled, inr (refl, refl)), λ at e. no_answer at e)) p
-    sound_by does.Invoke op p = sound_as op _ p.is (call_sound rows c (call_kind i.opcode) (member_in pool i) p.call (kind_of_method i.opcode) p.made)
-    sound_by does.InvokeStatic op p = sound_as op _ p.is (call_sound rows c Static (member_in pool i) p.call refl p.made)
+    sound_by (does.Invoke how) op p = sound_as op _ p.is (call_sound rows c (call_kind how) (member_in pool i) p.call (kind_of_method how) p.made)
     sound_by does.New op p = sound_as op _ p (some_token heads (class_in pool i) (class_named heads (class_in pool i)) refl)
-    sound_by does.NewArray op p = sound_as op _ p (chosen_token heads (nat_eq i.opcode 188))
+    sound_by (does.NewArray elements) op p = sound_as op _ p (array_token heads elements)
     sound_by does.NewArrays op p = sound_as op _ p (chosen_token heads (is_primitive (drop (operand_at i 1) (class_in pool i))))
     sound_by does.Nothing op p = sound_as op _ p tt
     sound_by (does.Constant kind) op p = sound_as op _ p tt
@@ -202,14 +209,13 @@ module _ (heads : List ClassHead) (rows : Content) (c : ℕ) (pool : Table) (i :
   return_by : (b : Behaviour) → OperatesAs heads rows c pool i before b (ops.Return kind) → b ≡ does.Return kind
   return_by (does.Return k) p = let same : kind ≡ k = cc p in ap does.Return (sym same)
   return_by does.Loaded p = contrary _ p (loaded_stays heads (tag_at pool (operand_at i 0)))
-  return_by does.GetStatic p = contrary _ refl (access_stays heads (member_in pool i) _ _ (ops.Return kind) (λ x. refl) p)
-  return_by does.PutStatic p = contrary _ refl (write_stays heads (member_in pool i) (ops.Return kind) p)
-  return_by does.GetField p = contrary _ refl (access_stays heads (member_in pool i) _ _ (ops.Return kind) (λ x. refl) p)
-  return_by does.PutField p = contrary _ refl (access_stays heads (member_in pool i) _ _ (ops.Return kind) (λ x. refl) p)
-  return_by does.Invoke p = contrary _ p.is refl
-  return_by does.InvokeStatic p = contrary _ p.is refl
+  return_by (does.Access GetStatic) p = contrary _ refl (access_stays heads (member_in pool i) _ _ (ops.Return kind) (λ x. refl) p)
+  return_by (does.Access PutStatic) p = contrary _ refl (write_stays heads (member_in pool i) (ops.Return kind) p)
+  return_by (does.Access GetField) p = contrary _ refl (access_stays heads (member_in pool i) _ _ (ops.Return kind) (λ x. refl) p)
+  return_by (does.Access PutField) p = contrary _ refl (access_stays heads (member_in pool i) _ _ (ops.Return kind) (λ x. refl) p)
+  return_by (does.Invoke how) p = contrary _ p.is refl
   return_by does.New p = contrary _ p refl
-  return_by does.NewArray p = contrary _ p refl
+  return_by (does.NewArray elements) p = contrary _ p refl
   return_by does.NewArrays p = contrary _ p refl
   return_by does.Nothing p = contrary _ p refl
   return_by (does.Constant k) p = contrary _ p refl

@@ -14,9 +14,9 @@ use Rattle.ja_lib.specs.Content.{Content, IsCategorized, IsMeaningAbout}
 use Rattle.ja_kinds.specs.declared.state.KindState.{KindState}
 use Rattle.ja_kinds.specs.declared.effect.Effect.{Effect}
 use Rattle.ja_kinds.specs.declared.frame.Frame.{Frame}
-use Rattle.ja_kinds.specs.declared.behaviour.Behaviour.{Behaviour}
-use Rattle.ja_kinds.specs.Behaviour.{behaviour_at}
-use Rattle.ja_kinds.specs.Effect.{Does, goes_on, branches, may_return}
+use Rattle.ja_code.specs.declared.behaviour.Behaviour.{Behaviour}
+use Rattle.ja_code.specs.Behaviour.{behaviour_at, goes_on, branches}
+use Rattle.ja_kinds.specs.Effect.{Does, may_return}
 use Rattle.ja_kinds.specs.Solution.{accepted}
 use Rattle.ja_operations.specs.Targets.{FindsFrom}
 use Rattle.ja_operations.specs.Operation.{IsOperation}

@@ -1,6 +1,6 @@
 -- Moves as the code lists them. Only private functions speak of it.
 use Rattle.std.specs.Prelude.{Bool, length, nat_le}
-use Rattle.ja_kinds.specs.Behaviour.{Move}
+use Rattle.ja_code.specs.Behaviour.{Move}
 use Rattle.ja_operations.specs.declared.shuffle.WayToMove.{WayToMove}
 
 abbrev pub move_seen : WayToMove → Move

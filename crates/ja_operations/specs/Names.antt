@@ -2,7 +2,7 @@
 use Rattle.std.specs.Prelude.{ℕ, List}
 use Rattle.ja_pool.specs.Table.{Table, tag_at, class_name_at, member_class_at, member_name_at, member_desc_at}
 use Rattle.ja_code.specs.declared.instr.RawInstr.{RawInstr}
-use Rattle.ja_kinds.specs.Effect.{operand_at}
+use Rattle.ja_code.specs.Grammar.{operand_at}
 use Rattle.ja_operations.specs.declared.member.MemberRef.{MemberRef}
 
 -- the tag of the entry that an instruction names

@@ -9,14 +9,16 @@ use Rattle.ja_ir.specs.declared.op.Op.{Op}
 use Rattle.ja_ir.specs.declared.op.Op.TheVariants as ops
 use Rattle.ja_ir.specs.declared.op.CallOp.{CallOp}
 use Rattle.ja_ir.specs.declared.op.CallKind.{CallKind}
-use Rattle.ja_ir.specs.declared.op.CallKind.TheVariants.{Static}
 use Rattle.ja_lib.specs.Content.{Content}
 use Rattle.ja_kinds.specs.declared.state.KindState.{KindState}
-use Rattle.ja_kinds.specs.declared.behaviour.Source.{Source}
-use Rattle.ja_kinds.specs.declared.behaviour.Behaviour.{Behaviour}
-use Rattle.ja_kinds.specs.declared.behaviour.Behaviour.TheVariants.{Nothing, Constant, Loaded, Load, Store, Increment, ArrayLoad, ArrayStore, Rearrange, Compute, Test, Jump, Switch, Return, GetStatic, PutStatic, GetField, PutField, Invoke, InvokeStatic, New, NewArray, NewArrays, ArrayLength, Throw, Cast, InstanceOf, Monitor}
-use Rattle.ja_kinds.specs.Behaviour.{behaviour_at}
-use Rattle.ja_kinds.specs.Effect.{operand_at, place_of, kinds_of}
+use Rattle.ja_code.specs.declared.behaviour.Source.{Source}
+use Rattle.ja_code.specs.declared.behaviour.FieldAccess.{FieldAccess}
+use Rattle.ja_code.specs.declared.behaviour.FieldAccess.TheVariants.{GetStatic, PutStatic, GetField, PutField}
+use Rattle.ja_code.specs.declared.behaviour.Behaviour.{Behaviour}
+use Rattle.ja_code.specs.declared.behaviour.Behaviour.TheVariants.{Nothing, Constant, Loaded, Load, Store, Increment, ArrayLoad, ArrayStore, Rearrange, Compute, Test, Jump, Switch, Return, Access, Invoke, New, NewArray, NewArrays, ArrayLength, Throw, Cast, InstanceOf, Monitor}
+use Rattle.ja_code.specs.Behaviour.{behaviour_at}
+use Rattle.ja_kinds.specs.Effect.{place_of, kinds_of}
+use Rattle.ja_code.specs.Grammar.{operand_at}
 use Rattle.ja_operations.specs.declared.member.MemberRef.{MemberRef}
 use Rattle.ja_operations.specs.Names.{tag_named, class_in, member_in}
 use Rattle.ja_operations.specs.Tokens.{library_token, token_of_class, token_of_array, token_of_innermost}
@@ -52,6 +54,13 @@ pub record Calls (heads : List ClassHead) (table : Content) (c : ℕ) (kind : Ca
   pub is : op ≡ ops.Call call
   pub made : IsCall heads table c kind member call
 
+-- an access of a field does this
+abbrev pub DoesAccess : List ClassHead → (categories : List (List ℕ)) → MemberRef → FieldAccess → Op → Type 0
+DoesAccess heads categories member GetStatic op = Accesses heads member ops.GetStatic (static_read categories member) op
+DoesAccess heads categories member PutStatic op = WritesStatic heads member ops.PutStatic op
+DoesAccess heads categories member GetField op = Accesses heads member ops.GetField (member_read categories member) op
+DoesAccess heads categories member PutField op = Accesses heads member ops.PutField (member_write categories member) op
+
 -- an instruction of this behaviour in class c does this, by what is known before it
 abbrev pub OperatesAs : List ClassHead → Content → (c : ℕ) → Table → RawInstr → (before : Option KindState) → Behaviour → Op → Type 0
 OperatesAs heads table c pool i before Nothing op = op ≡ ops.Nop
@@ -68,14 +77,10 @@ OperatesAs heads table c pool i before (Test operands) op = op ≡ ops.Branch (l
 OperatesAs heads table c pool i before Jump op = op ≡ ops.Branch 0
 OperatesAs heads table c pool i before Switch op = op ≡ ops.Branch 1
 OperatesAs heads table c pool i before (Return kind) op = op ≡ ops.Return kind
-OperatesAs heads table c pool i before GetStatic op = Accesses heads (member_in pool i) ops.GetStatic (static_read table.categories (member_in pool i)) op
-OperatesAs heads table c pool i before PutStatic op = WritesStatic heads (member_in pool i) ops.PutStatic op
-OperatesAs heads table c pool i before GetField op = Accesses heads (member_in pool i) ops.GetField (member_read table.categories (member_in pool i)) op
-OperatesAs heads table c pool i before PutField op = Accesses heads (member_in pool i) ops.PutField (member_write table.categories (member_in pool i)) op
-OperatesAs heads table c pool i before Invoke op = Calls heads table c (call_kind i.opcode) (member_in pool i) op
-OperatesAs heads table c pool i before InvokeStatic op = Calls heads table c Static (member_in pool i) op
+OperatesAs heads table c pool i before (Access how) op = DoesAccess heads table.categories (member_in pool i) how op
+OperatesAs heads table c pool i before (Invoke how) op = Calls heads table c (call_kind how) (member_in pool i) op
 OperatesAs heads table c pool i before New op = op ≡ ops.New (token_of_class heads (class_in pool i))
-OperatesAs heads table c pool i before NewArray op = op ≡ ops.NewArray (token_of_array heads i.opcode) 1
+OperatesAs heads table c pool i before (NewArray elements) op = op ≡ ops.NewArray (token_of_array heads elements) 1
 OperatesAs heads table c pool i before NewArrays op = op ≡ ops.NewArray (token_of_innermost heads (class_in pool i) (operand_at i 1)) (operand_at i 1)
 OperatesAs heads table c pool i before ArrayLength op = op ≡ ops.ArrLen
 OperatesAs heads table c pool i before Throw op = op ≡ ops.Throw

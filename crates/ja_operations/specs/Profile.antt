@@ -1,12 +1,12 @@
 -- What a class file of the profile gives for an instruction (JVM specification 4.9.1).
-use Rattle.std.specs.Prelude.{◌≡◌, ◌≤◌, Bool, true, false, IsTrue, Some}
+use Rattle.std.specs.Prelude.{◌≡◌, ◌≤◌, IsTrue, Some}
 use Rattle.ja_bytes.specs.DescriptorText.{IsFieldDesc, IsMethodText}
 use Rattle.ja_pool.specs.Table.{Table, is_member_tag}
 use Rattle.ja_code.specs.declared.instr.RawInstr.{RawInstr}
-use Rattle.ja_kinds.specs.declared.behaviour.Behaviour.{Behaviour}
-use Rattle.ja_kinds.specs.declared.behaviour.Behaviour.TheVariants.{GetStatic, PutStatic, GetField, PutField, Invoke, InvokeStatic, New, NewArrays, Cast, InstanceOf}
-use Rattle.ja_kinds.specs.Behaviour.{behaviour_at}
-use Rattle.ja_kinds.specs.Effect.{operand_at}
+use Rattle.ja_code.specs.declared.behaviour.Behaviour.{Behaviour}
+use Rattle.ja_code.specs.declared.behaviour.Behaviour.TheVariants.{Access, Invoke, New, NewArrays, Cast, InstanceOf}
+use Rattle.ja_code.specs.Behaviour.{behaviour_at}
+use Rattle.ja_code.specs.Grammar.{operand_at}
 use Rattle.ja_operations.specs.Names.{tag_named, desc_in}
 
 -- the instruction names a class
@@ -25,27 +25,13 @@ pub record NamesSomeMethod (pool : Table) (i : RawInstr) : Type 0 where
 
 -- an instruction of this behaviour names an entry of the pool that suits it
 abbrev pub Suits : Table → RawInstr → Behaviour → Type 0
-Suits pool i GetStatic = NamesSomeField pool i
-Suits pool i PutStatic = NamesSomeField pool i
-Suits pool i GetField = NamesSomeField pool i
-Suits pool i PutField = NamesSomeField pool i
-Suits pool i Invoke = NamesSomeMethod pool i
-Suits pool i InvokeStatic = NamesSomeMethod pool i
+Suits pool i (Access how) = NamesSomeField pool i
+Suits pool i (Invoke how) = NamesSomeMethod pool i
 Suits pool i New = NamesClass pool i
 Suits pool i NewArrays = NamesClass pool i × (operand_at i 1 ≤ 255)
 Suits pool i Cast = NamesClass pool i
 Suits pool i InstanceOf = NamesClass pool i
 Suits pool i _ = Unit {0}
-
--- what an instruction of this behaviour names is a field or a method
-abbrev pub names_member : Behaviour → Bool
-names_member GetStatic = true
-names_member PutStatic = true
-names_member GetField = true
-names_member PutField = true
-names_member Invoke = true
-names_member InvokeStatic = true
-names_member _ = false
 
 -- the instruction is one of the profile, and what it names suits it
 pub record IsProfiled (pool : Table) (i : RawInstr) : Type 0 where

@@ -3,13 +3,14 @@ use Rattle.std.specs.Prelude.{◌≡◌, Bool, true, false, List, codes, bytes_e
 use Rattle.ja_ir.specs.declared.head.ClassHead.{ClassHead}
 use Rattle.ja_ir.specs.declared.class.MethodAt.TheVariants.{Library}
 use Rattle.ja_ir.specs.declared.op.CallKind.{CallKind}
-use Rattle.ja_ir.specs.declared.op.CallKind.TheVariants.{Static}
 use Rattle.ja_hier.specs.declared.field_at.FieldAt.TheVariants.{Library as OfLibrary, Missing}
 use Rattle.ja_pool.specs.Table.{Table}
 use Rattle.ja_code.specs.declared.instr.RawInstr.{RawInstr}
-use Rattle.ja_kinds.specs.declared.behaviour.Behaviour.{Behaviour}
-use Rattle.ja_kinds.specs.declared.behaviour.Behaviour.TheVariants.{GetStatic, PutStatic, GetField, PutField, Invoke, InvokeStatic}
-use Rattle.ja_kinds.specs.Behaviour.{behaviour_at}
+use Rattle.ja_code.specs.declared.behaviour.FieldAccess.{FieldAccess}
+use Rattle.ja_code.specs.declared.behaviour.FieldAccess.TheVariants.{GetStatic, PutStatic, GetField, PutField}
+use Rattle.ja_code.specs.declared.behaviour.Behaviour.{Behaviour}
+use Rattle.ja_code.specs.declared.behaviour.Behaviour.TheVariants.{Access, Invoke}
+use Rattle.ja_code.specs.Behaviour.{behaviour_at}
 use Rattle.ja_operations.specs.declared.fault.OpFault.{OpFault}
 use Rattle.ja_operations.specs.declared.fault.OpFault.TheVariants.{Reflection, ThreadStart, LibraryStore, NoField, Memory}
 use Rattle.ja_operations.specs.declared.member.MemberRef.{MemberRef}
@@ -61,14 +62,17 @@ pub data RefusesStore (heads : List ClassHead) (member : MemberRef) : OpFault �
   nowhere : IsFieldAt heads member Missing → RefusesStore heads member NoField
   library_store : IsFieldAt heads member OfLibrary → RefusesStore heads member LibraryStore
 
+-- why such an access of a field has no operation
+abbrev pub RefusesField : List ClassHead → MemberRef → FieldAccess → OpFault → Type 0
+RefusesField heads member GetStatic fault = RefusesAccess heads member fault
+RefusesField heads member PutStatic fault = RefusesStore heads member fault
+RefusesField heads member GetField fault = RefusesAccess heads member fault
+RefusesField heads member PutField fault = RefusesAccess heads member fault
+
 -- why an instruction of this behaviour in class c has no operation
 abbrev pub Refuses : List ClassHead → (c : ℕ) → Table → RawInstr → Behaviour → OpFault → Type 0
-Refuses heads c pool i GetStatic fault = RefusesAccess heads (member_in pool i) fault
-Refuses heads c pool i PutStatic fault = RefusesStore heads (member_in pool i) fault
-Refuses heads c pool i GetField fault = RefusesAccess heads (member_in pool i) fault
-Refuses heads c pool i PutField fault = RefusesAccess heads (member_in pool i) fault
-Refuses heads c pool i Invoke fault = RefusesCall heads c (call_kind i.opcode) (member_in pool i) fault
-Refuses heads c pool i InvokeStatic fault = RefusesCall heads c Static (member_in pool i) fault
+Refuses heads c pool i (Access how) fault = RefusesField heads (member_in pool i) how fault
+Refuses heads c pool i (Invoke how) fault = RefusesCall heads c (call_kind how) (member_in pool i) fault
 Refuses heads c pool i _ fault = ⊥
 
 -- why an instruction of class c has no operation

@@ -5,9 +5,9 @@ use Rattle.ja_base.specs.Kind.{words_of}
 use Rattle.ja_base.specs.declared.java_type.Kind.{Kind}
 use Rattle.ja_ir.specs.declared.op.Op.{Op}
 use Rattle.ja_ir.specs.declared.op.Op.TheVariants.{Shuffle}
-use Rattle.ja_kinds.specs.declared.behaviour.Rearrangement.{Rearrangement}
+use Rattle.ja_code.specs.declared.behaviour.Rearrangement.{Rearrangement}
 use Rattle.ja_kinds.specs.declared.state.KindState.{KindState}
-use Rattle.ja_kinds.specs.Behaviour.{Move, move, moves_of}
+use Rattle.ja_code.specs.Behaviour.{Move, move, moves_of}
 use Rattle.ja_kinds.specs.Frame.{top}
 
 -- values have these words, one by one

@@ -1,5 +1,7 @@
 -- Where static and special calls go (JVM specification 6.5, invokespecial and invokestatic).
-use Rattle.std.specs.Prelude.{◌≡◌, ℕ, ◌==◌, true, List, codes, Option, Some, None, slice_get, if◌then◌else◌}
+use Rattle.std.specs.Prelude.{◌≡◌, ℕ, true, List, codes, Option, Some, None, slice_get}
+use Rattle.ja_code.specs.declared.behaviour.Invocation.{Invocation}
+use Rattle.ja_code.specs.declared.behaviour.Invocation.TheVariants as invocations
 use Rattle.ja_ir.specs.declared.head.ClassHead.{ClassHead}
 use Rattle.ja_ir.specs.declared.class.MethodAt.{MethodAt}
 use Rattle.ja_ir.specs.declared.class.MethodAt.TheVariants.{Library}
@@ -12,9 +14,12 @@ use Rattle.ja_supertypes.specs.Supertypes.{class_named, superclass_name, object_
 use Rattle.ja_supertypes.specs.LibraryTypes.{IsNearest}
 use Rattle.ja_operations.specs.declared.member.MemberRef.{MemberRef}
 
--- the kind of a call with a receiver, by its opcode: `invokevirtual`, `invokespecial`, and else `invokeinterface`
-abbrev pub call_kind : (opcode : ℕ) → CallKind
-call_kind opcode = if opcode == 182 then Virtual else if opcode == 183 then Special else Interface
+-- the kind of the call that an instruction makes
+abbrev pub call_kind : Invocation → CallKind
+call_kind invocations.Virtual = Virtual
+call_kind invocations.Special = Special
+call_kind invocations.Static = Static
+call_kind invocations.Interface = Interface
 
 -- where the look-up of a method ends that begins at the class of a name: for a library class or an array class in the library
 pub data FindsFrom (heads : List ClassHead) (class name desc : List ℕ) : MethodAt → Type 0 where

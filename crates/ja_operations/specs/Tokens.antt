@@ -1,7 +1,9 @@
 -- The tokens of what instructions make, among so many program classes.
-use Rattle.std.specs.Prelude.{ℕ, ◌+◌, ◌||◌, Bool, false, List, [], ◌∷◌, Option, Some, None, drop, length, ◌==◌, if◌then◌else◌}
+use Rattle.std.specs.Prelude.{ℕ, ◌+◌, ◌||◌, Bool, false, List, [], ◌∷◌, Option, Some, None, drop, length, if◌then◌else◌}
 use Rattle.ja_ir.specs.declared.head.ClassHead.{ClassHead}
 use Rattle.ja_ir.specs.declared.op.Token.{Token}
+use Rattle.ja_code.specs.declared.behaviour.Elements.{Elements}
+use Rattle.ja_code.specs.declared.behaviour.Elements.TheVariants.{Primitives, References}
 use Rattle.ja_base.specs.Descriptor.{is_word_letter, is_pair_letter}
 use Rattle.ja_supertypes.specs.Supertypes.{class_named}
 
@@ -36,9 +38,10 @@ is_primitive [] = false
 is_primitive (b ∷ []) = is_primitive_letter b
 is_primitive (b ∷ c ∷ bytes) = false
 
--- `newarray`, opcode 188, makes arrays of primitives, and `anewarray` arrays of references
-abbrev pub token_of_array : List ClassHead → (opcode : ℕ) → Token
-token_of_array heads opcode = if opcode == 188 then primitives_token heads else references_token heads
+-- the token of new arrays of one dimension, by what their elements are
+abbrev pub token_of_array : List ClassHead → Elements → Token
+token_of_array heads Primitives = primitives_token heads
+token_of_array heads References = references_token heads
 
 -- the token of the innermost arrays that `multianewarray` makes of an array class in so many dimensions: their elements are
 -- of what is left of the class's name behind as many '['

@@ -11,19 +11,21 @@ use crate::target::found_by;
 use crate::{MemberRef, OpFault};
 use ja_base::{ClassId, Desc, Memory};
 use ja_bytes::{DescFault, method_desc};
+use ja_code::Invocation;
 use ja_hier::Hier;
 use ja_ir::{CallKind, CallOp};
 use ja_lib::Table;
 use std::alloc::Global;
 
-/// The kind of a call with a receiver, by its opcode.
-pub(crate) fn call_kind(opcode: u8) -> CallKind
-    ensures { result ≡ call_kind opcode }
+/// The kind of the call that an instruction makes.
+pub(crate) fn call_kind(how: Invocation) -> CallKind
+    ensures { result ≡ call_kind how }
 {
-    match opcode {
-        182 => CallKind::Virtual,
-        183 => CallKind::Special,
-        _ => CallKind::Interface,
+    match how {
+        Invocation::Virtual => CallKind::Virtual,
+        Invocation::Special => CallKind::Special,
+        Invocation::Static => CallKind::Static,
+        Invocation::Interface => CallKind::Interface,
     }
 }
 

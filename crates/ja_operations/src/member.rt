@@ -1,6 +1,6 @@
 ghost use Rattle.std.specs.Prelude.{◌≡◌, ◌≢◌, IfOk, IsTrue};
 ghost use Rattle.ja_pool.specs.Table.{is_member_tag};
-ghost use Rattle.ja_kinds.specs.Effect.{operand_at};
+ghost use Rattle.ja_code.specs.Grammar.{operand_at};
 ghost use Rattle.ja_operations.specs.Names.{tag_named, class_in, member_in};
 
 use ja_base::{Memory, Name};
@@ -17,35 +17,12 @@ pub struct MemberRef {
     pub desc: Name,
 }
 
-/// The operand of an instruction at a place, 0 where it has none there.
-pub(crate) fn operand(instr: &RawInstr, place: u64) -> u64
-    ensures { result ≡ operand_at instr.now place }
-{
-    if place < instr.operands.len() {
-        *instr.operands.at(place)
-    } else {
-        0
-    }
-}
-
-/// The tag of the entry that an instruction names.
-pub(crate) fn tag_named(pool: &Pool, instr: &RawInstr) -> u8
-    ensures { result ≡ tag_named pool.now instr.now }
-{
-    let index = operand(instr, 0);
-    if index < u64::from(pool.count()) {
-        pool.tag(index as u32)
-    } else {
-        0
-    }
-}
-
 /// The index of the entry that an instruction names.
 fn index_named(pool: &Pool, instr: &RawInstr) -> u32
     requires { tag_named pool.now instr.now ≢ 0 }
     ensures { result ≡ operand_at instr.now 0 }
 {
-    let index = operand(instr, 0);
+    let index = instr.operand(0);
     let inside = index < u64::from(pool.count());
     prove!(inside);
     index as u32

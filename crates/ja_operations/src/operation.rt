@@ -1,27 +1,30 @@
 ghost use Rattle.std.specs.Prelude.{◌≡◌, ◌≤◌, ◌<◌, ◌^◌, true, length, option_copied, IfOk, IfErr, Option, Some};
-ghost use Rattle.ja_bytes.specs.DescriptorText.{IsMethodText};
 ghost use Rattle.ja_ir.specs.declared.op.Op.TheVariants as ops;
 ghost use Rattle.ja_kinds.specs.declared.state.KindState.{KindState};
-ghost use Rattle.ja_kinds.specs.Effect.{kinds_of, operand_at};
+ghost use Rattle.ja_kinds.specs.Effect.{kinds_of};
+ghost use Rattle.ja_code.specs.Grammar.{operand_at};
 ghost use Rattle.ja_operations.specs.declared.fault.OpFault.TheVariants as faults;
-ghost use Rattle.ja_operations.specs.Names.{class_in};
-ghost use Rattle.ja_operations.specs.Profile.{NamesClass, names_member, Suits, IsProfiled};
+ghost use Rattle.ja_operations.specs.Names.{class_in, member_in};
+ghost use Rattle.ja_operations.specs.Profile.{NamesClass, NamesSomeField, NamesSomeMethod, Suits, IsProfiled};
+ghost use Rattle.ja_operations.specs.Targets.{call_kind};
 ghost use Rattle.ja_operations.specs.Tokens.{token_of_class, token_of_array, token_of_innermost};
 ghost use Rattle.ja_operations.specs.Shuffles.{move_after, shuffle_of};
-ghost use Rattle.ja_operations.specs.Operation.{loaded, local_of, Calls, OperatesAs, IsOperation};
-ghost use Rattle.ja_operations.specs.Refused.{RefusesCall, Refuses, IsRefusedFor, UnlessMemory};
+ghost use Rattle.ja_operations.specs.Operation.{loaded, local_of, Calls, DoesAccess, OperatesAs, IsOperation};
+ghost use Rattle.ja_operations.specs.Refused.{RefusesCall, RefusesField, Refuses, IsRefusedFor, UnlessMemory};
 
+use crate::OpFault;
 use crate::call::{call_kind, call_of};
 use crate::field::{get_field, get_static, put_field, put_static};
-use crate::member::{class_named, member_named, operand, tag_named};
+use crate::member::{class_named, member_named};
 use crate::shuffle::shuffle_after;
 use crate::token::{library_token, token_of_array, token_of_class, token_of_innermost};
-use crate::{MemberRef, OpFault};
 use ja_base::{ClassId, Kind, Name};
-use ja_code::RawInstr;
+use ja_code::{
+    Behaviour, Elements, FieldAccess, Invocation, Operands, RawInstr, Rearrangement, Source,
+};
 use ja_hier::Hier;
-use ja_ir::{CallKind, Op};
-use ja_kinds::{Behaviour, KindState, Operands, Rearrangement, Source, behaviour_of};
+use ja_ir::Op;
+use ja_kinds::{KindState, tag_named};
 use ja_lib::Table;
 use ja_pool::Pool;
 use std::alloc::Global;
@@ -41,7 +44,7 @@ fn local_of(source: Source, instr: &RawInstr) -> u32
     ensures { result ≡ local_of source instr.now }
 {
     let place = match source {
-        Source::Operand => operand(instr, 0),
+        Source::Operand => instr.operand(0),
         Source::Fixed(place) => u64::from(place),
     };
     place.min(65535) as u32
@@ -59,49 +62,45 @@ fn loaded(hier: &Hier, tag: u8) -> Op
     }
 }
 
-/// What an instruction of this behaviour does that names a field or a method.
-fn by_member(
+/// What an access of a field does.
+fn access(
+    alloc: Global,
+    hier: &Hier,
+    table: &Table,
+    pool: &Pool,
+    instr: &RawInstr,
+    how: FieldAccess,
+) -> Result<Op, OpFault>
+    requires { NamesSomeField pool.now instr.now }
+    ensures ok { IfOk result (DoesAccess hier.now table.now.categories (member_in pool.now instr.now) how) }
+    ensures refused { IfErr result (UnlessMemory (RefusesField hier.now (member_in pool.now instr.now) how)) }
+{
+    let member = member_named(alloc, pool, instr)?;
+    match how {
+        FieldAccess::GetStatic => get_static(alloc, hier, table, member),
+        FieldAccess::PutStatic => put_static(hier, &member),
+        FieldAccess::GetField => get_field(alloc, hier, table, member),
+        FieldAccess::PutField => put_field(alloc, hier, table, member),
+    }
+}
+
+/// What a call does.
+fn invoke(
     alloc: Global,
     hier: &Hier,
     table: &Table,
     c: ClassId,
     pool: &Pool,
     instr: &RawInstr,
-    behaviour: Behaviour,
+    how: Invocation,
 ) -> Result<Op, OpFault>
     requires class { c.0 < length hier.now }
-    requires names { names_member behaviour ≡ true }
-    requires suits { Suits pool.now instr.now behaviour }
-    ensures ok { IfOk result (λ op. (before : Option KindState) → OperatesAs hier.now table.now c.0 pool.now instr.now before behaviour op) }
-    ensures refused { IfErr result (UnlessMemory (Refuses hier.now c.0 pool.now instr.now behaviour)) }
+    requires names { NamesSomeMethod pool.now instr.now }
+    ensures ok { IfOk result (Calls hier.now table.now c.0 (call_kind how) (member_in pool.now instr.now)) }
+    ensures refused { IfErr result (UnlessMemory (RefusesCall hier.now c.0 (call_kind how) (member_in pool.now instr.now))) }
 {
     let member = member_named(alloc, pool, instr)?;
-    match behaviour {
-        Behaviour::GetStatic => get_static(alloc, hier, table, member),
-        Behaviour::PutStatic => put_static(hier, &member),
-        Behaviour::GetField => get_field(alloc, hier, table, member),
-        Behaviour::PutField => put_field(alloc, hier, table, member),
-        Behaviour::Invoke => invoke(alloc, hier, table, c, call_kind(instr.opcode), member),
-        Behaviour::InvokeStatic => invoke(alloc, hier, table, c, CallKind::Static, member),
-        _ => unreachable!(),
-    }
-}
-
-/// The call of a method, as an operation.
-fn invoke(
-    alloc: Global,
-    hier: &Hier,
-    table: &Table,
-    c: ClassId,
-    kind: CallKind,
-    member: MemberRef,
-) -> Result<Op, OpFault>
-    requires class { c.0 < length hier.now }
-    requires desc { IsMethodText member.desc }
-    ensures ok { IfOk result (Calls hier.now table.now c.0 kind member) }
-    ensures refused { IfErr result (UnlessMemory (RefusesCall hier.now c.0 kind member)) }
-{
-    match call_of(alloc, hier, table, c, kind, member) {
+    match call_of(alloc, hier, table, c, call_kind(how), member) {
         Ok(call) => Ok(Op::Call(call)),
         Err(fault) => Err(fault),
     }
@@ -125,7 +124,7 @@ fn new_arrays(hier: &Hier, pool: &Pool, instr: &RawInstr) -> Op
     requires dimensions { operand_at instr.now 1 ≤ 255 }
     ensures { result ≡ ops.NewArray (token_of_innermost hier.now (class_in pool.now instr.now) (operand_at instr.now 1)) (operand_at instr.now 1) }
 {
-    let dimensions = operand(instr, 1) as u32;
+    let dimensions = instr.operand(1) as u32;
     Op::NewArray {
         last: token_of_innermost(hier, class_named(pool, instr), dimensions),
         dimensions,
@@ -133,12 +132,12 @@ fn new_arrays(hier: &Hier, pool: &Pool, instr: &RawInstr) -> Op
 }
 
 /// What `newarray` or `anewarray` makes.
-fn new_array(hier: &Hier, instr: &RawInstr) -> Op
+fn new_array(hier: &Hier, elements: Elements) -> Op
     requires { length hier.now ≤ 2 ^ 26 }
-    ensures { result ≡ ops.NewArray (token_of_array hier.now instr.now.opcode) 1 }
+    ensures { result ≡ ops.NewArray (token_of_array hier.now elements) 1 }
 {
     Op::NewArray {
-        last: token_of_array(hier, instr.opcode),
+        last: token_of_array(hier, elements),
         dimensions: 1,
     }
 }
@@ -204,15 +203,16 @@ fn operates_as(
         Behaviour::Jump => Ok(Op::Branch { pops: 0 }),
         Behaviour::Switch => Ok(Op::Branch { pops: 1 }),
         Behaviour::Return(kind) => Ok(Op::Return(kind)),
+        Behaviour::Access(how) => access(alloc, hier, table, pool, instr, how),
+        Behaviour::Invoke(how) => invoke(alloc, hier, table, c, pool, instr, how),
         Behaviour::New => new_object(alloc, hier, pool, instr),
-        Behaviour::NewArray => Ok(new_array(hier, instr)),
+        Behaviour::NewArray(elements) => Ok(new_array(hier, elements)),
         Behaviour::NewArrays => Ok(new_arrays(hier, pool, instr)),
         Behaviour::ArrayLength => Ok(Op::ArrLen),
         Behaviour::Throw => Ok(Op::Throw),
         Behaviour::Cast => cast(alloc, pool, instr),
         Behaviour::InstanceOf => Ok(Op::InstanceOf),
         Behaviour::Monitor => Ok(Op::Monitor),
-        _ => by_member(alloc, hier, table, c, pool, instr, behaviour),
     }
 }
 
@@ -239,7 +239,7 @@ pub fn operation_of(
     ensures ok { IfOk result (IsOperation hier.now table.now c.0 pool.now instr.now (option_copied before.entry)) }
     ensures refused { IfErr result (UnlessMemory (IsRefusedFor hier.now c.0 pool.now instr.now)) }
 {
-    match behaviour_of(instr.opcode) {
+    match instr.opcode.behaviour() {
         Some(behaviour) => operates_as(alloc, hier, table, c, pool, instr, before, behaviour),
         None => unreachable!(),
     }

@@ -5,8 +5,9 @@ ghost use Rattle.ja_operations.specs.Shuffles.{have_words, first_move, move_on, 
 ghost use Rattle.ja_operations.specs.Moves.{move_seen, is_short};
 
 use ja_base::{Kind, Memory, Numbers};
+use ja_code::Rearrangement;
 use ja_ir::Op;
-use ja_kinds::{KindState, Rearrangement};
+use ja_kinds::KindState;
 use std::alloc::Global;
 
 /// A way to move values: the words of those that are taken, from the bottom, and which of them are

@@ -3,6 +3,7 @@ ghost use Rattle.ja_ir.specs.Tokens.{array_shape};
 ghost use Rattle.ja_operations.specs.Tokens.{library_token, references_token, primitives_token, token_of_class, token_of_array, token_of_innermost, is_primitive, is_primitive_letter};
 
 use ja_base::Name;
+use ja_code::Elements;
 use ja_hier::Hier;
 use ja_ir::Token;
 
@@ -49,15 +50,14 @@ pub(crate) fn token_of_class(hier: &Hier, name: &Name) -> Token
     }
 }
 
-/// The token of the arrays that `newarray` or `anewarray` makes.
-pub(crate) fn token_of_array(hier: &Hier, opcode: u8) -> Token
+/// The token of new arrays of one dimension.
+pub(crate) fn token_of_array(hier: &Hier, elements: Elements) -> Token
     requires { length hier.now ≤ 2 ^ 26 }
-    ensures { result ≡ token_of_array hier.now opcode }
+    ensures { result ≡ token_of_array hier.now elements }
 {
-    if opcode == 188 {
-        primitives_token(hier)
-    } else {
-        references_token(hier)
+    match elements {
+        Elements::Primitives => primitives_token(hier),
+        Elements::References => references_token(hier),
     }
 }
 

@@ -9,7 +9,7 @@ ghost use Rattle.ja_writable.specs.Judging.{Asks};
 use indexmap::IndexSet;
 use ja_assembly::{FIELD, Key, METHOD, constructor_of, method_tag};
 use ja_base::{Memory, Name};
-use ja_code::{Form, form_of};
+use ja_code::Opcode;
 use ja_listing::{Frame, Head, Item, MemberName, Operand};
 use std::alloc::Global;
 
@@ -61,7 +61,7 @@ fn ask_member(
 fn ask_operand(
     alloc: Global,
     keys: &mut IndexSet<Key>,
-    opcode: u8,
+    opcode: Opcode,
     operand: &Operand,
 ) -> Result<(), Memory>
     ensures { OnOk result (Asks keys.old.keys keys.new.keys (operand_keys opcode operand.now)) }
@@ -75,7 +75,7 @@ fn ask_operand(
         Operand::ClassName(name) | Operand::ArrayName(name, _) => ask_class(alloc, keys, name),
         Operand::FieldName(member) => ask_member(alloc, keys, FIELD, member),
         Operand::MethodName(member) => {
-            ask_member(alloc, keys, method_tag(form_of(opcode)), member)
+            ask_member(alloc, keys, method_tag(Some(opcode.form())), member)
         }
     }
 }

@@ -15,6 +15,7 @@ use crate::judge_text::{
 use crate::place::Place;
 use ja_assembly::parted;
 use ja_base::Name;
+use ja_code::Opcode;
 use ja_listing::{Frame, Head, Item, Number, Operand};
 use std::alloc::Global;
 
@@ -132,7 +133,7 @@ fn judge_try(
 }
 
 /// An instruction of a method with code or without.
-fn judge_placed(alloc: Global, place: &Place, opcode: u8, operand: &Operand) -> Result<(), Flaw>
+fn judge_placed(alloc: Global, place: &Place, opcode: Opcode, operand: &Operand) -> Result<(), Flaw>
     requires { place.now.pc ≤ 65535 }
     ensures { Judges result ((place.now.has_code ≡ false) ⊎ IsNoInstruction (places place.now.labels) place.now.pc opcode operand.now) }
 {

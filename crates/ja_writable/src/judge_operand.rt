@@ -14,7 +14,7 @@ use crate::judge_text::{
 use crate::place::Place;
 use ja_assembly::argument_words;
 use ja_base::Name;
-use ja_code::{Entry, Form, form_of, is_refused_opcode};
+use ja_code::{Entry, Form, Opcode};
 use ja_listing::{MemberName, Operand};
 use std::alloc::Global;
 
@@ -126,14 +126,14 @@ fn judge_value(
 pub(crate) fn judge_instruction(
     alloc: Global,
     place: &Place,
-    opcode: u8,
+    opcode: Opcode,
     operand: &Operand,
 ) -> Result<(), Flaw>
     requires { place.now.pc ≤ 65535 }
     ensures { Judges result (IsNoInstruction (places place.now.labels) place.now.pc opcode operand.now) }
 {
-    demand(!is_refused_opcode(opcode))?;
-    let form = form_of(opcode);
+    demand(!opcode.is_refused())?;
+    let form = Some(opcode.form());
     demand(suits(form, operand))?;
     judge_value(alloc, place, form, operand)
 }

@@ -8,27 +8,10 @@ use super::bytes::{u8_at, u16_at};
 use super::constant::Constant;
 use super::names::{call_of, constant_at};
 use super::{FirstCode, FirstFault, FirstInstr, FirstOp};
+use ja_code::number::{
+    ALOAD, ALOAD_0, ALOAD_3, ASTORE, ASTORE_0, ASTORE_3, INVOKESTATIC, LDC, POP, RETURN,
+};
 use std::alloc::Global;
-
-const LDC: u8 = 18;
-
-const ALOAD: u8 = 25;
-
-const ALOAD_0: u8 = 42;
-
-const ALOAD_3: u8 = 45;
-
-const ASTORE: u8 = 58;
-
-const ASTORE_0: u8 = 75;
-
-const ASTORE_3: u8 = 78;
-
-const POP: u8 = 87;
-
-const RETURN: u8 = 177;
-
-const INVOKESTATIC: u8 = 184;
 
 /// The operation that pushes the constant with an index, which must be a text.
 #[tactic(auto, unfolding(crate::specs::Reading::constant_at))]

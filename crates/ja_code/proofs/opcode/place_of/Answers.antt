@@ -1,5 +1,5 @@
 use Rattle.std.proofs.Common.{◌∙◌}
-use Rattle.ja_code.proofs.Table.{place_of_row}
+use Rattle.ja_code.proofs.Rows.{place_of_row}
 use Rattle.ja_code.proofs.opcode.place_of.Goals as goal
 
 pub returns-clause-place : goal.returns-clause-place

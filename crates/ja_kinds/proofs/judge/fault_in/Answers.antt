@@ -1,7 +1,7 @@
 use Rattle.std.proofs.Common.{◌≡◌, Some, get_or, ◌∙◌}
 use Rattle.std.proofs.lemmas.List.{get_or_default}
 use Rattle.ja_kinds.specs.declared.state.State.TheVariants.{Unreached}
-use Rattle.ja_kinds.specs.Behaviour.{behaviour_at}
+use Rattle.ja_code.specs.Behaviour.{behaviour_at}
 use Rattle.ja_kinds.specs.Effect.{Does}
 use Rattle.ja_kinds.specs.Solving.{state_at}
 use Rattle.ja_kinds.proofs.Visits.{deed_law, idle_found, does_found}

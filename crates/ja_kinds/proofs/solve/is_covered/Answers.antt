@@ -10,7 +10,7 @@ loop-row-preserved c =
     let none : RawHandler = record { start = 0; end = 0; handler = 0; catch_type = 0 } in
     let i : ℕ = c.loop-row.row-index in
     uncovered_more c.args.rows.now i c.args.pc (get_or c.args.rows.now i none) c.loop-row-test.true
-    (get_or_default c.args.rows.now i (get_or c.args.rows.now i none) none c.loop-row-test.true) c.loop-row.invariant (sym c.covers.ensures ∙ c.if-covers.false)
+    (get_or_default c.args.rows.now i (get_or c.args.rows.now i none) none c.loop-row-test.true) c.loop-row.invariant (sym c.covers.ensures.test ∙ c.if-covers.false)
 
 pub returns : goal.returns
 returns c = λ e.

@@ -1,5 +1,6 @@
 use Rattle.std.proofs.Common.{◌≡◌, true, ℕ, ◌+◌, inl, inr}
-use Rattle.ja_kinds.specs.Effect.{IsOneOf, goes_on, targets_of, LeadsTo}
+use Rattle.ja_kinds.specs.Effect.{IsOneOf, targets_of, LeadsTo}
+use Rattle.ja_code.specs.Behaviour.{goes_on}
 use Rattle.ja_kinds.proofs.Hands.{hands_both}
 use Rattle.ja_kinds.proofs.solve.raise_after.Goals as goal
 

@@ -1,5 +1,5 @@
 use Rattle.std.proofs.Common.{◌≡◌, true, false, ℕ, ◌+◌}
-use Rattle.ja_kinds.specs.Effect.{goes_on}
+use Rattle.ja_code.specs.Behaviour.{goes_on}
 use Rattle.ja_kinds.proofs.Hands.{hands_none}
 use Rattle.ja_kinds.proofs.solve.raise_next.Goals as goal
 

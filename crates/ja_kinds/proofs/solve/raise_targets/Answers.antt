@@ -1,5 +1,6 @@
 use Rattle.std.proofs.Common.{◌≡◌, false, ℕ}
-use Rattle.ja_kinds.specs.Effect.{IsOneOf, branches, targets_of}
+use Rattle.ja_kinds.specs.Effect.{IsOneOf, targets_of}
+use Rattle.ja_code.specs.Behaviour.{branches}
 use Rattle.ja_kinds.proofs.Hands.{hands_none, no_targets}
 use Rattle.ja_kinds.proofs.solve.raise_targets.Goals as goal
 

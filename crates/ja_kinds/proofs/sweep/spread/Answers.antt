@@ -1,7 +1,7 @@
 use Rattle.std.proofs.Common.{◌≡◌, ℕ, true, false, List, Some, None, sym, subst}
 use Rattle.ja_code.specs.declared.handler.RawHandler.{RawHandler}
 use Rattle.ja_kinds.specs.declared.state.State.{State}
-use Rattle.ja_kinds.specs.Behaviour.{behaviour_at}
+use Rattle.ja_code.specs.Behaviour.{behaviour_at}
 use Rattle.ja_kinds.specs.Effect.{Does, LeadsTo}
 use Rattle.ja_kinds.specs.Solution.{thrown, HandledAt}
 use Rattle.ja_kinds.specs.Solving.{state_at, IsWide, Hands}

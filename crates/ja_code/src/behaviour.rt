@@ -1,3 +1,6 @@
+ghost use Rattle.std.specs.Prelude.{◌≡◌};
+ghost use Rattle.ja_code.specs.Behaviour.{goes_on, branches};
+
 use ja_base::Kind;
 
 /// Which local variable an instruction uses.
@@ -28,6 +31,35 @@ pub enum Rearrangement {
     Dup2X1,
     Dup2X2,
     Swap,
+}
+
+/// The instructions that read or write a field (JVM specification 6.5).
+#[derive(Clone, Copy, PartialEq, Eq)]
+pub enum FieldAccess {
+    /// Pushes the static field.
+    GetStatic,
+    /// Pops into the static field.
+    PutStatic,
+    /// Pops an object and pushes its field.
+    GetField,
+    /// Pops an object and a value, and sets the field.
+    PutField,
+}
+
+/// The instructions that call a method (JVM specification 6.5). But for `Static` they pop a receiver below the arguments.
+#[derive(Clone, Copy, PartialEq, Eq)]
+pub enum Invocation {
+    Virtual,
+    Special,
+    Static,
+    Interface,
+}
+
+/// What the elements of a new array of one dimension are (JVM specification 6.5, newarray and anewarray).
+#[derive(Clone, Copy, PartialEq, Eq)]
+pub enum Elements {
+    Primitives,
+    References,
 }
 
 /// What an opcode does with locals and stack (JVM specification 6.5).
@@ -65,22 +97,14 @@ pub enum Behaviour {
     Switch,
     /// Ends the method, with a value where there is a kind.
     Return(Option<Kind>),
-    /// Pushes the static field that its pool entry names.
-    GetStatic,
-    /// Pops into the static field.
-    PutStatic,
-    /// Pops an object and pushes its field.
-    GetField,
-    /// Pops an object and a value, and sets the field.
-    PutField,
-    /// Pops a receiver and the arguments of the method that its pool entry names, and pushes its result.
-    Invoke,
-    /// Pops the arguments, without a receiver, and pushes the result.
-    InvokeStatic,
+    /// Reads or writes the field that its pool entry names.
+    Access(FieldAccess),
+    /// Pops the arguments of the method that its pool entry names, and pushes its result.
+    Invoke(Invocation),
     /// Pushes a new object.
     New,
     /// Pops a length and pushes a new array.
-    NewArray,
+    NewArray(Elements),
     /// Pops as many lengths as its operand says and pushes a new array.
     NewArrays,
     /// Pops an array and pushes its length.
@@ -93,4 +117,31 @@ pub enum Behaviour {
     InstanceOf,
     /// Pops the object whose monitor is entered or left.
     Monitor,
+}
+
+impl Behaviour {
+    /// Whether the next instruction in the code may come after one.
+    pub fn goes_on(self) -> bool
+        ensures { result ≡ goes_on self }
+    {
+        match self {
+            Behaviour::Jump => false,
+            Behaviour::Switch => false,
+            Behaviour::Return(_) => false,
+            Behaviour::Throw => false,
+            _ => true,
+        }
+    }
+
+    /// Whether the operands of an instruction are places where it may go.
+    pub fn branches(self) -> bool
+        ensures { result ≡ branches self }
+    {
+        match self {
+            Behaviour::Test(_) => true,
+            Behaviour::Jump => true,
+            Behaviour::Switch => true,
+            _ => false,
+        }
+    }
 }

@@ -1,12 +1,15 @@
 -- What each opcode does with locals and stack (JVM specification, 6.5).
-use Rattle.std.specs.Prelude.{ℕ, ◌-◌, ◌%◌, ◌==◌, ◌||◌, Bool, false, List, [], ◌∷◌, Option, Some, None, nat_le, if◌then◌else◌}
+use Rattle.std.specs.Prelude.{ℕ, ◌-◌, ◌%◌, ◌==◌, ◌||◌, Bool, true, false, List, [], ◌∷◌, Option, Some, None, nat_le, if◌then◌else◌}
 use Rattle.ja_base.specs.declared.java_type.Kind.{Kind}
 use Rattle.ja_base.specs.declared.java_type.Kind.TheVariants.{P1, P2, R}
-use Rattle.ja_kinds.specs.declared.behaviour.Source.TheVariants.{Operand, Fixed}
-use Rattle.ja_kinds.specs.declared.behaviour.Operands.TheVariants.{One, Two}
-use Rattle.ja_kinds.specs.declared.behaviour.Rearrangement.TheVariants.{Pop, Pop2, Dup, DupX1, DupX2, Dup2, Dup2X1, Dup2X2, Swap}
-use Rattle.ja_kinds.specs.declared.behaviour.Behaviour.{Behaviour}
-use Rattle.ja_kinds.specs.declared.behaviour.Behaviour.TheVariants.{Nothing, Constant, Loaded, Load, Store, Increment, ArrayLoad, ArrayStore, Rearrange, Compute, Test, Jump, Switch, Return, GetStatic, PutStatic, GetField, PutField, Invoke, InvokeStatic, New, NewArray, NewArrays, ArrayLength, Throw, Cast, InstanceOf, Monitor}
+use Rattle.ja_code.specs.declared.behaviour.Source.TheVariants.{Operand, Fixed}
+use Rattle.ja_code.specs.declared.behaviour.Operands.TheVariants.{One, Two}
+use Rattle.ja_code.specs.declared.behaviour.Rearrangement.TheVariants.{Pop, Pop2, Dup, DupX1, DupX2, Dup2, Dup2X1, Dup2X2, Swap}
+use Rattle.ja_code.specs.declared.behaviour.FieldAccess.TheVariants.{GetStatic, PutStatic, GetField, PutField}
+use Rattle.ja_code.specs.declared.behaviour.Invocation.TheVariants.{Virtual, Special, Static, Interface}
+use Rattle.ja_code.specs.declared.behaviour.Elements.TheVariants.{Primitives, References}
+use Rattle.ja_code.specs.declared.behaviour.Behaviour.{Behaviour}
+use Rattle.ja_code.specs.declared.behaviour.Behaviour.TheVariants.{Nothing, Constant, Loaded, Load, Store, Increment, ArrayLoad, ArrayStore, Rearrange, Compute, Test, Jump, Switch, Return, Access, Invoke, New, NewArray, NewArrays, ArrayLength, Throw, Cast, InstanceOf, Monitor}
 
 -- the last of a run of opcodes, and what each of them does
 pub record Run : Type 0 where
@@ -76,8 +79,9 @@ runs =
     ∷ run 158 (Test (One P1)) ∷ run 164 (Test (Two P1 P1)) ∷ run 166 (Test (Two R R)) ∷ run 167 Jump ∷ refused 169
     ∷ run 171 Switch ∷ run 172 (Return (Some P1)) ∷ run 173 (Return (Some P2)) ∷ run 174 (Return (Some P1))
     ∷ run 175 (Return (Some P2)) ∷ run 176 (Return (Some R)) ∷ run 177 (Return None)
-    ∷ run 178 GetStatic ∷ run 179 PutStatic ∷ run 180 GetField ∷ run 181 PutField ∷ run 183 Invoke ∷ run 184 InvokeStatic
-    ∷ run 185 Invoke ∷ refused 186 ∷ run 187 New ∷ run 189 NewArray ∷ run 190 ArrayLength ∷ run 191 Throw ∷ run 192 Cast
+    ∷ run 178 (Access GetStatic) ∷ run 179 (Access PutStatic) ∷ run 180 (Access GetField) ∷ run 181 (Access PutField)
+    ∷ run 182 (Invoke Virtual) ∷ run 183 (Invoke Special) ∷ run 184 (Invoke Static) ∷ run 185 (Invoke Interface) ∷ refused 186
+    ∷ run 187 New ∷ run 188 (NewArray Primitives) ∷ run 189 (NewArray References) ∷ run 190 ArrayLength ∷ run 191 Throw ∷ run 192 Cast
     ∷ run 193 InstanceOf ∷ run 195 Monitor ∷ refused 196 ∷ run 197 NewArrays ∷ run 199 (Test (One R)) ∷ run 200 Jump
     ∷ refused 201 ∷ []
 
@@ -90,6 +94,21 @@ behaviour_in (r ∷ rs) op = if nat_le op r.last then r.does op else behaviour_i
 unfoldable pub behaviour_at : ℕ → Option Behaviour
 behaviour_at op = behaviour_in runs op
 
+-- whether the next instruction in the code may come after one
+abbrev pub goes_on : Behaviour → Bool
+goes_on Jump = false
+goes_on Switch = false
+goes_on (Return kind) = false
+goes_on Throw = false
+goes_on behaviour = true
+
+-- whether the operands of an instruction are places where it may go
+abbrev pub branches : Behaviour → Bool
+branches (Test operands) = true
+branches Jump = true
+branches Switch = true
+branches behaviour = false
+
 -- how an instruction moves values: the words of the values that it takes, from the bottom, and which of these values it
 -- pushes, in this order
 pub record Move : Type 0 where
@@ -100,7 +119,7 @@ abbrev pub move : List ℕ → List ℕ → Move
 move takes pushes = record { takes = takes; pushes = pushes }
 
 -- the moves that an instruction can be, by the words of the values on the stack (JVM specification 6.5)
-abbrev pub moves_of : Rattle.ja_kinds.specs.declared.behaviour.Rearrangement.Rearrangement → List Move
+abbrev pub moves_of : Rattle.ja_code.specs.declared.behaviour.Rearrangement.Rearrangement → List Move
 moves_of Pop = move (1 ∷ []) [] ∷ []
 moves_of Pop2 = move (1 ∷ 1 ∷ []) [] ∷ move (2 ∷ []) [] ∷ []
 moves_of Dup = move (1 ∷ []) (0 ∷ 0 ∷ []) ∷ []
