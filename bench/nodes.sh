@@ -1,6 +1,7 @@
 #!/usr/bin/env bash
 # Nodes that are asked for again per second: the shared table with 1, 2 and 4 threads, beside a
 # hash map of Rust's std in one thread, on one sequence. Each figure is the best of some runs.
+# Then how full tables get with nodes of relations over three copies of 60 slots, and how many places a make looks at.
 # Usage: bench/nodes.sh [RUNS [MAKES]]
 . "$(dirname "$0")/common.sh"
 runs=${1:-5}
@@ -28,4 +29,10 @@ for slots in 65536 4194304; do
         done
         echo "$line"
     done
+done
+
+printf '\n%9s %12s %7s %12s %16s\n' slots nodes full makes 'probes a make'
+for slots in 65536 1048576 16777216; do
+    "$table" "$slots" 90 | awk -v slots="$slots" -F '[ ,]+' \
+        '{ printf "%9d %12d %6.1f%% %12d %16.1f%s\n", slots, $2, 100 * $2 / slots, $4, $6 / $4, $2 < slots * 0.9 - 1 ? "   no room" : "" }'
 done

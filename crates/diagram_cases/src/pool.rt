@@ -1,5 +1,5 @@
 //! A worker, and the nodes that it was asked for.
-ghost use Rattle.std.specs.Prelude.{◌≡◌, ◌⊎◌, IfSome, IfOk, OnOk};
+ghost use Rattle.std.specs.Prelude.{◌≡◌, ◌⊎◌, ◌≤◌, IfSome, IfOk, OnOk};
 ghost use Rattle.std.specs.List.{All};
 ghost use Rattle.ja_node_core.specs.Node.{Knows};
 ghost use Rattle.ja_node_table.specs.Seats.{IsOf};
@@ -7,13 +7,16 @@ ghost use Rattle.ja_bdd.specs.Meaning.{Keeps};
 ghost use Rattle.ja_bdd.specs.Workers.{IsWorkerOf, seen};
 
 use ja_base::Memory;
-use ja_bdd::{Assign, Worker};
+use ja_bdd::{Assign, Copies, Worker};
 use ja_node_core::AnyAim;
 use ja_node_table::{Node, NodeSeat, NodeTable, Parts};
 use std::alloc::Global;
 
 /// The last variable.
 pub const LAST: u32 = 4094;
+
+/// How many entries the cache of a pool's worker has.
+const ENTRIES: usize = 1 << 16;
 
 /// One operation of a worker.
 #[derive(Clone, Copy)]
@@ -22,6 +25,28 @@ pub enum Step {
     And,
     Or,
     Exists(u32),
+    ExistsAll(Copies),
+    AndExists(Copies),
+}
+
+/// The node of a variable or of its negation.
+fn literal(
+    table: &NodeTable<AnyAim>,
+    worker: &mut Worker<AnyAim>,
+    var: u32,
+    value: bool,
+) -> Option<Node>
+    requires worker { IsWorkerOf table.now worker.old }
+    requires var { var ≤ 4094 }
+    ensures worker { IsWorkerOf table.now worker.new }
+    ensures keeps { Keeps (seen worker.old) (seen worker.new) }
+    ensures known { IfSome result (λ n. Knows (seen worker.new) n.number) }
+{
+    if value {
+        worker.make(table, var, Node::FALSE, Node::TRUE).ok()
+    } else {
+        worker.make(table, var, Node::TRUE, Node::FALSE).ok()
+    }
 }
 
 /// Makes one operation, of a worker that knows both nodes.
@@ -39,15 +64,12 @@ fn ask(
     ensures known { IfSome result (λ n. Knows (seen worker.new) n.number) }
 {
     match step {
-        Step::Literal(var, true) => worker
-            .make(table, var.min(LAST), Node::FALSE, Node::TRUE)
-            .ok(),
-        Step::Literal(var, false) => worker
-            .make(table, var.min(LAST), Node::TRUE, Node::FALSE)
-            .ok(),
+        Step::Literal(var, value) => literal(table, worker, var.min(LAST), value),
         Step::And => worker.and(table, f, g).ok(),
         Step::Or => worker.or(table, f, g).ok(),
         Step::Exists(var) => worker.exists(table, f, var).ok(),
+        Step::ExistsAll(copies) => worker.exists_all(table, f, copies).ok(),
+        Step::AndExists(copies) => worker.and_exists(table, f, g, copies).ok(),
     }
 }
 
@@ -97,7 +119,7 @@ impl Pool {
         requires { IsOf table.now seat }
         ensures { IfOk result (λ p. IsWorkerOf table.now p.worker × All (λ n. Knows (seen p.worker) n.number) p.nodes.items) }
     {
-        let worker = Worker::new(alloc, seat).ok().ok_or(Memory)?;
+        let worker = Worker::with_cache(alloc, seat, ENTRIES).ok().ok_or(Memory)?;
         let nodes = vec![in alloc; Node::FALSE, Node::TRUE]?;
         Ok(Pool { worker, nodes })
     }

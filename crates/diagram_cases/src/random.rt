@@ -6,7 +6,7 @@ ghost use Rattle.ja_bdd.specs.Workers.{IsWorkerOf, seen};
 
 use crate::pool::{Pool, Step};
 use ja_base::Memory;
-use ja_bdd::Assign;
+use ja_bdd::{Assign, Copies};
 use ja_node_core::AnyAim;
 use ja_node_table::NodeTable;
 use std::alloc::Global;
@@ -18,18 +18,47 @@ fn bit(values: &Values, point: usize) -> bool {
     values[point / 64 % 64] >> (point % 64) & 1 == 1
 }
 
+/// The values where one of the first twelve variables is forgotten.
+fn without(values: &Values, var: u32) -> Values {
+    let mask = 1 << var.min(11);
+    let mut made = [0; 64];
+    for point in 0..4096 {
+        if bit(values, point | mask) || bit(values, (point | mask) ^ mask) {
+            made[point / 64] |= 1 << (point % 64);
+        }
+    }
+    made
+}
+
+/// The values where all variables of some copies are forgotten.
+fn without_copies(values: &Values, copies: Copies) -> Values {
+    let mut made = *values;
+    for var in 0..12 {
+        if copies.has(var) {
+            made = without(&made, var);
+        }
+    }
+    made
+}
+
 /// The values that an operation is to give.
 fn expected(step: Step, f: &Values, g: &Values) -> Values {
+    match step {
+        Step::Exists(var) => without(f, var),
+        Step::ExistsAll(copies) => without_copies(f, copies),
+        Step::AndExists(copies) => without_copies(&joined(Step::And, f, g), copies),
+        step => joined(step, f, g),
+    }
+}
+
+/// The values of a literal, a conjunction or a disjunction.
+fn joined(step: Step, f: &Values, g: &Values) -> Values {
     let mut made = [0; 64];
     for point in 0..4096 {
         let value = match step {
             Step::Literal(var, positive) => (point >> var.min(11) & 1 == 1) == positive,
             Step::And => bit(f, point) && bit(g, point),
-            Step::Or => bit(f, point) || bit(g, point),
-            Step::Exists(var) => {
-                let mask = 1 << var.min(11);
-                bit(f, point | mask) || bit(f, (point | mask) ^ mask)
-            }
+            _ => bit(f, point) || bit(g, point),
         };
         if value {
             made[point / 64] |= 1 << (point % 64);
@@ -56,15 +85,27 @@ fn agrees(
     Ok(true)
 }
 
+/// Some copies, by the lowest bits of a number.
+fn drawn_copies(bits: u64) -> Copies {
+    Copies {
+        at_entry: bits & 1 == 1,
+        at_present: bits & 2 == 2,
+        at_next: bits & 4 == 4,
+        at_callee: bits & 8 == 8,
+    }
+}
+
 /// The operation of a round.
 fn drawn(round: u32, random: u64) -> Step {
     let var = (random >> 20 & 0xffff) as u32 % 12;
     if round < 24 {
         return Step::Literal(round % 12, round < 12);
     }
-    match random >> 40 & 3 {
+    match random >> 40 & 7 {
         0 => Step::Exists(var),
-        1 => Step::And,
+        1 => Step::ExistsAll(drawn_copies(random >> 48)),
+        2 => Step::AndExists(drawn_copies(random >> 48)),
+        3 | 4 => Step::And,
         _ => Step::Or,
     }
 }

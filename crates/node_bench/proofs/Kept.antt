@@ -1,13 +1,15 @@
 -- What is known stays known.
-use Rattle.std.proofs.Common.{◌≡◌, ℕ, ◌-◌, ◌<◌, ◌≤◌, List, length, get_or, sym, subst, arith, ◌∙◌}
+use Rattle.std.proofs.Common.{◌≡◌, ℕ, ◌-◌, ◌<◌, ◌≤◌, List, length, get_or, sym, subst, arith, ◌∙◌, ◌⊎◌, ⊎_elim}
 use Rattle.std.specs.List.{All}
 use Rattle.std.proofs.lemmas.List.Elements.{All-weaker, All-get_or}
 use Rattle.ja_node_core.specs.Node.{Words, IsPart}
 use Rattle.ja_node_core.specs.declared.word.Node.{Node}
 use Rattle.ja_node_core.specs.declared.word.Parts.{Parts}
-use Rattle.ja_node_core.proofs.Claims.{child_more, node_child}
+use Rattle.ja_node_core.proofs.Claims.{child_more, node_child, constant_child}
 use Rattle.ja_node_table.specs.Seats.{IsMade}
 use Rattle.node_bench.specs.Made.{IsUnder, IsAsked}
+use Rattle.node_bench.specs.declared.relations.Rest.{Rest}
+use Rattle.node_bench.specs.Relations.{IsRest}
 
 pub under_more : (some all : Words) → IsPart some all → (var : ℕ) (n : Node) → IsUnder some var n → IsUnder all var n
 under_more some all part var n under = record { tree = under.tree; child = child_more some all part var n.number under.tree under.child }
@@ -36,3 +38,17 @@ under_made before now var lo hi n low high made pos =
 
 pub under_chain : (a b c : Words) → IsPart a b → IsPart b c → IsPart a c
 under_chain a b c first second p pos = let same = first p pos in second p (subst (λ w. 0 < w) (sym same) pos) ∙ same
+
+pub constant_under : (at : Words) (var : ℕ) (n : Node) → n.number < 2 → IsUnder at var n
+constant_under at var n lt = let child = constant_child at var n.number lt in record { tree = child.0; child = child.1 }
+
+pub rest_more : (some all : Words) → IsPart some all → (var : ℕ) (r : Rest) → IsRest some var r → IsRest all var r
+rest_more some all part var r is = record { clean = under_more some all part var r.clean is.clean; tainted = under_more some all part var r.tainted is.tainted }
+
+-- one of the two nodes of a rest
+pub rest_under : (at : Words) (var : ℕ) (r : Rest) (n : Node) → IsRest at var r → (n ≡ r.tainted) ⊎ (n ≡ r.clean) → IsUnder at var n
+rest_under at var r n is = ⊎_elim (λ e. subst (IsUnder at var) (sym e) is.tainted) (λ e. subst (IsUnder at var) (sym e) is.clean)
+
+-- a constant or a node that may be a child
+pub forced_under : (at : Words) (var : ℕ) (n m : Node) → IsUnder at var m → (n.number < 2) ⊎ (n ≡ m) → IsUnder at var n
+forced_under at var n m is = ⊎_elim (constant_under at var n) (λ e. subst (IsUnder at var) (sym e) is)

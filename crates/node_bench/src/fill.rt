@@ -13,7 +13,7 @@ use std::alloc::Global;
 const WIDTH: u64 = 1_000;
 
 /// A number that looks random, from another one.
-fn mixed(number: u64) -> u64 {
+pub fn mixed(number: u64) -> u64 {
     let step = number.wrapping_mul(0x9e37_79b9_7f4a_7c15);
     let step = (step ^ (step >> 30)).wrapping_mul(0xbf58_476d_1ce4_e5b9);
     let step = (step ^ (step >> 27)).wrapping_mul(0x94d0_49bb_1331_11eb);

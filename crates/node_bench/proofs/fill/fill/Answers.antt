@@ -3,14 +3,10 @@ use Rattle.std.specs.List.{All}
 use Rattle.std.proofs.lemmas.List.Elements.{All-append, All-cons, All-nil}
 use Rattle.ja_node_core.specs.Node.{Words}
 use Rattle.ja_node_core.specs.declared.word.Node.{Node}
-use Rattle.ja_node_core.proofs.Claims.{constant_child}
 use Rattle.ja_node_table.specs.Seats.{known}
 use Rattle.node_bench.specs.Made.{IsUnder, IsAsked}
-use Rattle.node_bench.proofs.Kept.{all_under_more, all_under_less}
+use Rattle.node_bench.proofs.Kept.{all_under_more, all_under_less, constant_under}
 use Rattle.node_bench.proofs.fill.fill.Goals as goal
-
-constant_under : (at : Words) (var : ℕ) (n : Node) → n.number < 2 → IsUnder at var n
-constant_under at var n lt = let child = constant_child at var n.number lt in record { tree = child.0; child = child.1 }
 
 two_constants : (at : Words) (var : ℕ) (zero one : Node) → zero.number < 2 → one.number < 2 → All (IsUnder at var) (zero ∷ one ∷ [])
 two_constants at var zero one a b = All-cons (IsUnder at var) zero (one ∷ []) (constant_under at var zero a) (All-cons (IsUnder at var) one [] (constant_under at var one b) (All-nil (IsUnder at var)))
