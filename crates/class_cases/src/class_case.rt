@@ -14,12 +14,16 @@ pub fn add_read_class(
     text: &str,
 ) -> Result<(), CaseFault> {
     let bytes = bytes_of(alloc, kept, text)?;
-    match read_class(alloc, bytes.as_slice()) {
-        Ok(class) => add_class(out, &class)?,
-        Err(ClassFault::Memory) => return Err(CaseFault::Memory),
-        Err(fault) => writeln!(out, "  {fault:?}")?,
+    add_class_of(alloc, out, bytes.as_slice())
+}
+
+/// Adds what is read of bytes as a class file.
+pub fn add_class_of(alloc: Global, out: &mut String, bytes: &[u8]) -> Result<(), CaseFault> {
+    match read_class(alloc, bytes) {
+        Ok(class) => Ok(add_class(out, &class)?),
+        Err(ClassFault::Memory) => Err(CaseFault::Memory),
+        Err(fault) => Ok(writeln!(out, "  {fault:?}")?),
     }
-    Ok(())
 }
 
 /// Adds which fault the fronts of bytes have, from the lengths on at which it is another one than before.

@@ -46,6 +46,41 @@ fn add(code: &mut Instrs, alloc: Global, pc: u32, op: Op, next: &[u64]) -> Resul
     })
 }
 
+/// Adds the instructions that return the text, where the number is 0.
+fn add_return(code: &mut Instrs, alloc: Global) -> Result<(), Memory>
+    requires so_far { All (λ instr. All (λ j. j < 8) instr.next) code.old }
+    ensures inside { OnOk result (All (λ instr. All (λ j. j < 8) instr.next) code.new) }
+    ensures size { OnOk result (length code.new ≡ length code.old + 4) }
+{
+    add(code, alloc, 0, Op::Load(Kind::P1, 1), &[1])?;
+    add(code, alloc, 1, Op::Branch { pops: 1 }, &[4, 2])?;
+    add(code, alloc, 4, Op::Load(Kind::R, 0), &[3])?;
+    add(code, alloc, 5, Op::Return(Some(Kind::R)), &[])
+}
+
+/// Adds the instructions that hand a source's text to another method.
+fn add_hand_over(code: &mut Instrs, alloc: Global) -> Result<(), Memory>
+    requires so_far { All (λ instr. All (λ j. j < 8) instr.next) code.old }
+    ensures inside { OnOk result (All (λ instr. All (λ j. j < 8) instr.next) code.new) }
+    ensures size { OnOk result (length code.new ≡ length code.old + 4) }
+{
+    add(code, alloc, 6, call(alloc, b"source")?, &[5])?;
+    add(code, alloc, 9, Op::Load(Kind::P1, 1), &[6])?;
+    add(code, alloc, 10, call(alloc, b"g")?, &[7])?;
+    add(code, alloc, 13, Op::Return(Some(Kind::R)), &[])
+}
+
+/// The code of the method.
+fn code(alloc: Global) -> Result<Instrs, Memory>
+    ensures inside { IfOk result (λ code. All (λ instr. All (λ j. j < 8) instr.next) code) }
+    ensures size { IfOk result (λ code. length code ≡ 8) }
+{
+    let mut code: Instrs = Seq::new(alloc);
+    add_return(&mut code, alloc)?;
+    add_hand_over(&mut code, alloc)?;
+    Ok(code)
+}
+
 /// A method that returns its text, or calls another method with a source's text:
 ///
 /// ```text
@@ -55,15 +90,6 @@ fn recursive(alloc: Global) -> Result<Method, Memory>
     ensures inside { IfOk result StaysInside }
     ensures size { IfOk result (λ m. length m.code ≡ 8) }
 {
-    let mut code: Instrs = Seq::new(alloc);
-    add(&mut code, alloc, 0, Op::Load(Kind::P1, 1), &[1])?;
-    add(&mut code, alloc, 1, Op::Branch { pops: 1 }, &[4, 2])?;
-    add(&mut code, alloc, 4, Op::Load(Kind::R, 0), &[3])?;
-    add(&mut code, alloc, 5, Op::Return(Some(Kind::R)), &[])?;
-    add(&mut code, alloc, 6, call(alloc, b"source")?, &[5])?;
-    add(&mut code, alloc, 9, Op::Load(Kind::P1, 1), &[6])?;
-    add(&mut code, alloc, 10, call(alloc, b"g")?, &[7])?;
-    add(&mut code, alloc, 13, Op::Return(Some(Kind::R)), &[])?;
     Ok(Method {
         class: ClassId(0),
         name: Name::of(alloc, b"f")?,
@@ -76,7 +102,7 @@ fn recursive(alloc: Global) -> Result<Method, Memory>
         flags: 9,
         locals: 2,
         stack: 2,
-        code,
+        code: code(alloc)?,
         handlers: Seq::new(alloc),
     })
 }

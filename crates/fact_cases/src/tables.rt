@@ -18,9 +18,9 @@ const NOWHERE: MethodId = MethodId(5);
 pub fn add_rows(out: &mut String, alloc: Global) -> Result<(), Memory> {
     let mut rows = Rows::new(alloc);
     write!(out, "rows {}", rows.len())?;
-    for item in [5u32, 6, 7] {
-        rows.push(item)?;
-    }
+    rows.push(5u32)?;
+    rows.push(6)?;
+    rows.push(7)?;
     let len = rows.len();
     *rows.at_mut(1) = 9;
     write!(out, " {len}: {} {} {}", rows.at(0), rows.at(1), rows.at(2))?;

@@ -1,0 +1,9 @@
+pub mod Alike
+pub mod Changes
+pub mod Classes
+pub mod Premises
+pub mod ClassRules
+pub mod Steps
+pub mod HeapRules
+pub mod ReachRules
+pub mod Kept
