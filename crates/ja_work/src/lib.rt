@@ -1,0 +1,11 @@
+//! What the ends of instructions say of each slot, as data, and the aim of the analyser's own node tables: the functions that a
+//! program's equations are made of.
+#![tactic(auto)]
+
+mod clause;
+mod law;
+mod way;
+
+pub use clause::{Clause, Spot};
+pub use law::law_ends;
+pub use way::Way;
