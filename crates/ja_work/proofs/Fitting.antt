@@ -1,13 +1,11 @@
 -- What it is that a clause lets a spot have a truth.
-use Rattle.std.proofs.Common.{◌≡◌, ℕ, zero, suc, ◌+◌, ◌-◌, ◌<◌, ◌≤◌, Bool, true, false, refl, sym, ap, ◌∙◌, subst, arith, ◌⊎◌, inl, inr, ⊎_elim}
-use Rattle.std.specs.Prelude.{◌||◌, ◌&&◌, not, nat_lt, nat_eq, min, if◌then◌else◌, Option, Some, None}
+use Rattle.std.proofs.Common.{◌≡◌, ℕ, zero, suc, ◌<◌, Bool, true, false, refl, sym, ap, ◌∙◌, subst, arith, ⊎_elim}
+use Rattle.std.specs.Prelude.{◌||◌, min}
 use Rattle.std.proofs.lemmas.Bool.{or_cases, or_left, or_right, false≢true, cases_eq}
 use Rattle.ja_facts.specs.Slots.{Slot, Local as InLocal, OnStack as InStack}
 use Rattle.ja_facts.specs.Formulas.{Assignment, Implies, any_below, any_stacked}
 use Rattle.ja_work.specs.declared.clause.Spot.{Spot}
-use Rattle.ja_work.specs.declared.clause.Spot.TheVariants.{Local, OnStack, Dirt, Exc}
-use Rattle.ja_work.specs.declared.clause.Clause.{Clause}
-use Rattle.ja_work.specs.Clauses.{value, spot_of, value_if, bound, fits_as, fits, constant, never, anything, moved, at_most}
+use Rattle.ja_work.specs.Clauses.{value, spot_of, fits_as, fits, constant, moved, at_most}
 
 -- exactly where a bound is
 pub exact_fits : (p t : Bool) → t ≡ p → fits_as true p t ≡ true

@@ -1,8 +1,7 @@
 -- A slot that an operation leaves where it is: what its clause says is what the definition of the end says.
-use Rattle.std.proofs.Common.{◌≡◌, ◌≢◌, ℕ, zero, suc, ◌+◌, ◌-◌, ◌<◌, ◌≤◌, Bool, true, false, refl, sym, ap, ◌∙◌, subst, arith, ◌⊎◌, inl, inr, ⊎_elim, List, length}
-use Rattle.std.specs.Prelude.{◌||◌, ◌&&◌, ◌↔◌, not, nat_lt, nat_eq, min, if◌then◌else◌, Option, Some, None, All}
-use Rattle.std.proofs.lemmas.Bool.{or_cases, or_left, or_right, and_parts, and_from, false≢true, cases_Bool, eqb-true, ltb-true, ltb-false, lt-ltb}
-use Rattle.ja_base.specs.declared.java_type.Kind.{Kind}
+use Rattle.std.proofs.Common.{◌≡◌, ℕ, suc, ◌-◌, ◌<◌, ◌≤◌, Bool, true, false, refl, sym, ap, ◌∙◌, subst, arith}
+use Rattle.std.specs.Prelude.{◌||◌, if◌then◌else◌, Some}
+use Rattle.std.proofs.lemmas.Bool.{or_left, and_parts, and_from, false≢true}
 use Rattle.ja_ir.specs.declared.row.RowFlow.{RowFlow}
 use Rattle.ja_ir.specs.declared.row.RowFlow.TheVariants.{Always, Never, Args}
 use Rattle.ja_ir.specs.declared.row.RowEffect.{RowEffect}
@@ -10,17 +9,16 @@ use Rattle.ja_ir.specs.declared.row.RowEffect.TheVariants.{Quiet, Absorb, Blend}
 use Rattle.ja_ir.specs.declared.op.CallOp.{CallOp}
 use Rattle.ja_ir.specs.declared.op.Op.{Op}
 use Rattle.ja_ir.specs.declared.op.Op.TheVariants.{ArrStore, PutField, Call}
-use Rattle.ja_ir.specs.Operations.{arguments, count_of, has_receiver, pops, height_after, FindsOperands}
-use Rattle.ja_facts.specs.Slots.{Slot, Local as InLocal, OnStack as InStack, Copies, kept_local, kept_stack, argument}
+use Rattle.ja_ir.specs.Operations.{arguments, count_of, has_receiver, pops}
+use Rattle.ja_facts.specs.Slots.{Slot, OnStack as InStack, Copies, argument}
 use Rattle.ja_facts.specs.ClassSets.{IsSource}
-use Rattle.ja_facts.specs.Sharing.{PairAt, At, Writes, writes_field, writes_element}
+use Rattle.ja_facts.specs.Sharing.{At, Writes, writes_field, writes_element}
 use Rattle.ja_facts.specs.Reaching.{ReachAt}
 use Rattle.ja_facts.specs.Analyses.{Analyses}
-use Rattle.ja_facts.specs.Formulas.{Assignment, Implies, any_below, any_stacked, flow_by, put_in, MeetsSource, Turns, copied, written, absorbed}
-use Rattle.ja_work.specs.declared.clause.Spot.{Spot}
-use Rattle.ja_work.specs.Clauses.{value, spot_of, bound, fits_as, fits, moved}
+use Rattle.ja_facts.specs.Formulas.{Assignment, Implies, any_stacked, flow_by, put_in, MeetsSource, Turns, copied, written, absorbed}
+use Rattle.ja_work.specs.Clauses.{value, spot_of, bound, fits, moved}
 use Rattle.ja_work.specs.Ends.{Tests, AreTests, meets_by, is_always, taking, changed}
-use Rattle.ja_work.proofs.Fitting.{implied_fits, fits_implied, moved_fits, fits_moved, or_false, any_one, value_spot, any_some, some_any}
+use Rattle.ja_work.proofs.Fitting.{implied_fits, fits_implied, moved_fits, fits_moved, any_one, value_spot, any_some, some_any}
 
 -- what a row puts in is always there, or an argument
 pub put_is : (flow : RowFlow) (any : Bool) → (flow_by flow any || any) ≡ (is_always flow || any)

@@ -1,5 +1,5 @@
 -- What the clause of a library call's answer allows is what its row does.
-use Rattle.std.proofs.Common.{◌≡◌, ℕ, zero, suc, ◌+◌, ◌-◌, ◌<◌, ◌≤◌, Bool, true, false, refl, sym, ap, ◌∙◌, subst, arith}
+use Rattle.std.proofs.Common.{◌≡◌, ℕ, ◌+◌, Bool, true, false, refl, sym, ap, ◌∙◌, subst}
 use Rattle.std.specs.Prelude.{◌||◌, min}
 use Rattle.ja_base.specs.declared.java_type.Kind.{Kind}
 use Rattle.ja_base.specs.declared.java_type.Kind.TheVariants.{P1, P2, R, T}
@@ -14,9 +14,8 @@ use Rattle.ja_ir.specs.Operations.{arguments}
 use Rattle.ja_facts.specs.Slots.{OnStack as InStack}
 use Rattle.ja_facts.specs.Formulas as formula
 use Rattle.ja_facts.specs.Formulas.{Assignment, Implies, any_below, any_stacked, flow_by, flow, put_by, put_in, changes}
-use Rattle.ja_work.specs.declared.clause.Spot.TheVariants.{Dirt}
 use Rattle.ja_work.specs.Clauses.{bound, fits_as, fits}
-use Rattle.ja_work.specs.Ends.{is_always, deciding, by_flow, taking, member_count, answer_by, answer_of, dirt_by}
+use Rattle.ja_work.specs.Ends.{is_always, deciding, by_flow, member_count, answer_by, answer_of, dirt_by}
 use Rattle.ja_work.proofs.Fitting.{implied_fits, fits_implied, or_false, or_true, any_first}
 use Rattle.ja_work.proofs.Kept.{put_is, or_moved}
 

@@ -1,20 +1,13 @@
 -- The clauses of a normal end hold exactly where its definition does, at each slot.
-use Rattle.std.proofs.Common.{◌≡◌, ◌≢◌, ℕ, zero, suc, ◌+◌, ◌-◌, ◌<◌, ◌≤◌, Bool, true, false, refl, sym, ap, ◌∙◌, subst, arith, ◌⊎◌, inl, inr, ⊎_elim, List, length}
-use Rattle.std.specs.Prelude.{◌||◌, ◌&&◌, ◌↔◌, not, nat_lt, nat_eq, min, if◌then◌else◌, Option, Some, None, All, slice_get, slice_index}
-use Rattle.std.proofs.lemmas.Bool.{or_cases, or_left, or_right, false≢true, cases_Bool, eqb-true, eqb-false, eq-eqb, ne_eqb, ltb-true, ltb-false, lt-ltb, le-ltb}
+use Rattle.std.proofs.Common.{◌≡◌, ℕ, suc, ◌+◌, ◌-◌, ◌<◌, ◌≤◌, Bool, true, false, refl, sym, ap, ◌∙◌, subst, arith, List, length}
+use Rattle.std.specs.Prelude.{◌||◌, nat_lt, nat_eq, if◌then◌else◌, Option, Some, None, slice_get, slice_index}
+use Rattle.std.proofs.lemmas.Bool.{eqb-true, eqb-false, eq-eqb, ne_eqb, ltb-true, ltb-false, lt-ltb, le-ltb}
 use Rattle.std.proofs.lemmas.Option.{slice_get_within, slice_get-get_or, get_or_from_slice_get}
 use Rattle.ja_base.specs.declared.java_type.Kind.{Kind}
-use Rattle.ja_base.specs.declared.java_type.Kind.TheVariants.{P1, P2, R, T}
 use Rattle.ja_base.specs.declared.java_type.JavaType.{JavaType}
-use Rattle.ja_ir.specs.declared.row.RowFlow.{RowFlow}
-use Rattle.ja_ir.specs.declared.row.RowFlow.TheVariants.{Always, Never, Args}
-use Rattle.ja_ir.specs.declared.row.RowEffect.{RowEffect}
-use Rattle.ja_ir.specs.declared.row.RowEffect.TheVariants.{Quiet, Absorb, Blend}
-use Rattle.ja_ir.specs.declared.row.RowResult.{RowResult}
-use Rattle.ja_ir.specs.declared.row.RowResult.TheVariants.{Fresh, Argument, Member, Any}
 use Rattle.ja_ir.specs.declared.op.CallOp.{CallOp}
 use Rattle.ja_ir.specs.declared.op.Op.{Op}
-use Rattle.ja_ir.specs.declared.op.Op.TheVariants.{Nop, Const, Text, New, Load, Store, ArrLoad, ArrStore, Shuffle, Mix, Branch, Return, GetStatic, PutStatic, GetField, PutField, Call, NewArray, ArrLen, Throw, Cast, InstanceOf, Monitor}
+use Rattle.ja_ir.specs.declared.op.Op.TheVariants.{Const, Text, New, Load, Store, ArrLoad, ArrStore, Shuffle, Mix, GetStatic, GetField, PutField, Call, NewArray, ArrLen, Cast, InstanceOf}
 use Rattle.ja_ir.specs.Operations.{arguments, pops, pushes, height_after, FindsOperands, result_count}
 use Rattle.ja_facts.specs.Slots.{Slot, Local as InLocal, OnStack as InStack, Copies, KeepsLocal, kept_local, kept_stack, loaded, stored, shuffled, checked}
 use Rattle.ja_facts.specs.Sharing.{At, Writes, writes_field, writes_element, Makes, makes_text, makes_object, makes_array}
@@ -22,11 +15,10 @@ use Rattle.ja_facts.specs.Analyses.{Analyses}
 use Rattle.ja_facts.specs.Reaching.{ReachAt}
 use Rattle.ja_facts.specs.Formulas as formula
 use Rattle.ja_facts.specs.Formulas.{Assignment, Implies, any_stacked, put_in, MeetsSource, Loads, loads_field, loads_element, Turns, copied, above, constant, made, measured, tested, mixed, loaded as read_loaded, static_loaded, written, absorbed, answered}
-use Rattle.ja_work.specs.declared.clause.Spot.{Spot}
-use Rattle.ja_work.specs.declared.clause.Spot.TheVariants.{Local, OnStack, Dirt, Exc}
-use Rattle.ja_work.specs.Clauses.{value, spot_of, bound, fits, never, moved}
+use Rattle.ja_work.specs.declared.clause.Spot.TheVariants.{Local, OnStack}
+use Rattle.ja_work.specs.Clauses.{spot_of, fits, never, moved}
 use Rattle.ja_work.specs.Ends.{Tests, AreTests, local_after, changed, pushed, stacked_after, normal_clauses, answer, answer_of}
-use Rattle.ja_work.proofs.Fitting.{exact_fits, fits_exact, implied_fits, fits_implied, moved_fits, fits_moved, constant_fits, fits_constant, at_most_fits, fits_at_most, value_spot}
+use Rattle.ja_work.proofs.Fitting.{exact_fits, fits_exact, moved_fits, fits_moved, constant_fits, fits_constant, at_most_fits, fits_at_most, value_spot}
 use Rattle.ja_work.proofs.Kept.{keeps_fit, written_fits, absorbed_fits, fit_turns}
 use Rattle.ja_work.proofs.LibraryAnswers.{answer_fits_as, fits_answer}
 

@@ -1,27 +1,23 @@
 -- The clauses of exceptional ends and of ways through methods hold exactly where their definitions do.
-use Rattle.std.proofs.Common.{◌≡◌, ◌≢◌, ℕ, zero, suc, ◌+◌, ◌-◌, ◌<◌, ◌≤◌, Bool, true, false, refl, sym, ap, ◌∙◌, subst, arith, ◌⊎◌, inl, inr, ⊎_elim}
-use Rattle.std.specs.Prelude.{◌||◌, ◌&&◌, ◌↔◌, nat_lt, nat_eq, if◌then◌else◌, Option, Some, None}
-use Rattle.std.proofs.lemmas.Bool.{or_cases, or_left, or_right, and_parts, and_from, false≢true, eqb-true, eqb-false, eq-eqb, ne_eqb, ltb-true, ltb-false, lt-ltb, le-ltb}
+use Rattle.std.proofs.Common.{◌≡◌, ◌≢◌, ℕ, zero, suc, ◌+◌, ◌-◌, ◌<◌, ◌≤◌, Bool, true, false, refl, sym, ap, ◌∙◌, subst, arith, ⊎_elim}
+use Rattle.std.specs.Prelude.{◌||◌, ◌&&◌, nat_lt, nat_eq, if◌then◌else◌, Some}
+use Rattle.std.proofs.lemmas.Bool.{or_cases, or_left, or_right, and_from, false≢true, eqb-true, eqb-false, eq-eqb, ne_eqb, ltb-true, ltb-false, lt-ltb, le-ltb}
 use Rattle.ja_ir.specs.declared.row.RowEffect.{RowEffect}
 use Rattle.ja_ir.specs.declared.row.RowEffect.TheVariants.{Quiet, Absorb, Blend}
 use Rattle.ja_ir.specs.declared.op.CallOp.{CallOp}
 use Rattle.ja_ir.specs.declared.op.Op.{Op}
 use Rattle.ja_ir.specs.declared.op.Op.TheVariants.{Call, Throw}
-use Rattle.ja_ir.specs.Operations.{arguments, count_of, has_receiver, may_throw, pops, FindsOperands}
-use Rattle.ja_facts.specs.Slots.{Slot, Local as InLocal, OnStack as InStack, Copies, kept_local, IsLeft, left_local, left_stack}
-use Rattle.ja_facts.specs.ClassSets.{CallsAbstract, CallsLibrary}
+use Rattle.ja_ir.specs.Operations.{arguments, count_of, has_receiver, may_throw, FindsOperands}
+use Rattle.ja_facts.specs.Slots.{Slot, Local as InLocal, OnStack as InStack, IsLeft, left_local, left_stack}
 use Rattle.ja_facts.specs.Analyses.{Analyses}
-use Rattle.ja_facts.specs.Formulas as formula
-use Rattle.ja_facts.specs.Formulas.{Assignment, Summary, Implies, flow, put_in, changes, MeetsSource, Turns, copied, absorbed, Leaves, Absorbs, local_kept, local_absorbed, LeavesLibrary, ThrowsClean, clean_by_choice, clean_for_receiver, Throws, clean, at_abstract, thrown, in_library, IsAffected, CallTurns, call_kept, call_affected, call_answered, call_above, IsReturn, CallLeaves, left_kept, left_affected, IsCallThrown}
+use Rattle.ja_facts.specs.Formulas.{Assignment, Summary, Implies, flow, changes, Leaves, Absorbs, local_kept, local_absorbed, LeavesLibrary, clean_by_choice, clean_for_receiver, Throws, clean, at_abstract, thrown, in_library, IsAffected, CallTurns, call_kept, call_affected, call_answered, call_above, IsReturn, CallLeaves, left_kept, left_affected, IsCallThrown}
 use Rattle.ja_facts.specs.Equations.{IsCaught}
-use Rattle.ja_work.specs.declared.clause.Spot.{Spot}
 use Rattle.ja_work.specs.declared.clause.Spot.TheVariants.{Local, OnStack, Dirt, Exc}
-use Rattle.ja_work.specs.declared.clause.Clause.{Clause}
 use Rattle.ja_work.specs.declared.way.Way.{Way}
 use Rattle.ja_work.specs.declared.way.Way.TheVariants.{Clean, Thrown, InLibrary}
-use Rattle.ja_work.specs.Clauses.{value, spot_of, bound, fits_as, fits, AllFit, never, moved, constant}
-use Rattle.ja_work.specs.Ends.{Tests, AreTests, meets_by, taking, by_flow, changed, dirt_by, may_call, has_null_end, is_throw, may_end, library_local, library_exc, exceptional_clauses, AreAffected, affected_after, returned_stack, dirt_with, return_clauses, throw_clauses, caught_clauses}
-use Rattle.ja_work.proofs.Fitting.{exact_fits, fits_exact, implied_fits, fits_implied, moved_fits, fits_moved, constant_fits, fits_constant, or_false, or_true, value_spot}
+use Rattle.ja_work.specs.Clauses.{value, spot_of, bound, fits_as, fits, AllFit, never, moved}
+use Rattle.ja_work.specs.Ends.{Tests, AreTests, meets_by, taking, by_flow, changed, dirt_by, may_call, has_null_end, may_end, exceptional_clauses, AreAffected, affected_after, returned_stack, dirt_with, return_clauses, throw_clauses, caught_clauses}
+use Rattle.ja_work.proofs.Fitting.{exact_fits, fits_exact, implied_fits, fits_implied, moved_fits, fits_moved, constant_fits, fits_constant, or_false, value_spot}
 use Rattle.ja_work.proofs.Kept.{keeps_fit, absorbed_fits, take_bound, meets_source}
 use Rattle.ja_work.proofs.LibraryAnswers.{flow_bound, dirt_bound}
 

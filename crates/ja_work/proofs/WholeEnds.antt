@@ -1,7 +1,6 @@
 -- The clauses of the ends of an instruction hold exactly where the definitions of its ends do.
-use Rattle.std.proofs.Common.{◌≡◌, ◌∙◌, ◌-◌, ℕ, Some, Bool, true, false, not, refl, sym, ap, subst}
+use Rattle.std.proofs.Common.{◌≡◌, ◌∙◌, ◌-◌, ℕ, Some, Bool, true, false, refl, sym, ap, subst}
 use Rattle.std.specs.Prelude.{◌||◌}
-use Rattle.std.proofs.lemmas.Bool.{false≢true}
 use Rattle.ja_ir.specs.declared.program.Parts.{Parts}
 use Rattle.ja_ir.specs.declared.method.Instr.{Instr}
 use Rattle.ja_ir.specs.declared.op.Op.{Op}
@@ -12,10 +11,9 @@ use Rattle.ja_facts.specs.Slots.{Slot, Local as InLocal, OnStack as InStack}
 use Rattle.ja_facts.specs.Analyses.{Analyses}
 use Rattle.ja_facts.specs.Formulas as formula
 use Rattle.ja_facts.specs.Formulas.{Assignment, any_stacked, IsLibraryPart, Turns, IsNormalEnd, IsExceptionalEnd, Throws}
-use Rattle.ja_work.specs.declared.clause.Spot.{Spot}
 use Rattle.ja_work.specs.declared.clause.Spot.TheVariants.{Local, OnStack, Dirt, Exc}
 use Rattle.ja_work.specs.declared.way.Way.{Way}
-use Rattle.ja_work.specs.Clauses.{value, spot_of, fits, AllFit}
+use Rattle.ja_work.specs.Clauses.{fits, AllFit}
 use Rattle.ja_work.specs.Ends.{Tests, AreTests, may_go_on, normal_clauses, dirt_after, may_end, exceptional_clauses}
 use Rattle.ja_work.proofs.Fitting.{exact_fits, fits_exact, moved_fits, fits_moved, any_one}
 use Rattle.ja_work.proofs.NormalEnds.{turns_fit, normal_turns}
@@ -64,16 +62,21 @@ module _ (p : Parts) (A : Analyses) (m i : ℕ) (instr : Instr) (tests : Tests) 
 
   pub normal_fit : IsNormalEnd p A m i b after → (instr.reached ≡ true) × (may_go_on tests instr.op ≡ true) × AllFit (normal_clauses tests instr.op instr.height) b after
   normal_fit end =
-      let same = same_instr end.instr end.found in
-      (subst (λ (x : Instr). x.reached ≡ true) same end.reached,
-      subst (λ (x : Instr). may_go_on tests x.op ≡ true) same (goes end.instr.op end.goes_on end.library),
-      fit_all instr.op instr.height finds
-      (subst (λ (x : Instr). (y : Slot) → Turns A m i b x.op x.height y (after.slot y)) same end.slots)
-      (subst (λ (x : Instr). after.dirt ≡ formula.dirt_after x.op x.height b) same end.dirt) end.exc)
+      let same = same_instr end.instr end.found in (
+        subst (λ (x : Instr). x.reached ≡ true) same end.reached,
+        subst (λ (x : Instr). may_go_on tests x.op ≡ true) same (goes end.instr.op end.goes_on end.library),
+        fit_all instr.op instr.height finds
+            (subst (λ (x : Instr). (y : Slot) → Turns A m i b x.op x.height y (after.slot y)) same end.slots)
+            (subst (λ (x : Instr). after.dirt ≡ formula.dirt_after x.op x.height b) same end.dirt) end.exc,
+      )
 
   pub fit_normal : (instr.reached ≡ true) × (may_go_on tests instr.op ≡ true) × AllFit (normal_clauses tests instr.op instr.height) b after → IsNormalEnd p A m i b after
   fit_normal (reached, go, all) = record {
-    instr = instr; found = found; reached = reached; goes_on = ends instr.op go; library = library instr.op go;
+    instr = instr;
+    found = found;
+    reached = reached;
+    goes_on = ends instr.op go;
+    library = library instr.op go;
     slots = slots;
     dirt = fits_stored b instr.op instr.height after.dirt (all Dirt);
     exc = fits_moved b Exc after.exc (all Exc);
@@ -85,9 +88,10 @@ module _ (p : Parts) (A : Analyses) (m i : ℕ) (instr : Instr) (tests : Tests) 
 
   pub exceptional_fit : IsExceptionalEnd p A m i b after → (instr.reached ≡ true) × ((way : Way) × (may_end tests instr.op way ≡ true) × AllFit (exceptional_clauses way tests instr.op instr.height) b after)
   exceptional_fit end =
-      let same = same_instr end.instr end.found in
-      (subst (λ (x : Instr). x.reached ≡ true) same end.reached,
-      throws_fit A m i tests told b instr.op instr.height after (subst (λ (x : Instr). Throws A m i b x.op x.height after) same end.throws))
+      let same = same_instr end.instr end.found in (
+        subst (λ (x : Instr). x.reached ≡ true) same end.reached,
+        throws_fit A m i tests told b instr.op instr.height after (subst (λ (x : Instr). Throws A m i b x.op x.height after) same end.throws),
+      )
 
   pub fit_exceptional : (instr.reached ≡ true) × ((way : Way) × (may_end tests instr.op way ≡ true) × AllFit (exceptional_clauses way tests instr.op instr.height) b after) → IsExceptionalEnd p A m i b after
   fit_exceptional (reached, (way, ends', all)) = record { instr = instr; found = found; reached = reached; throws = fit_throws A m i tests told b instr.op instr.height after finds way ends' all }

@@ -1,5 +1,5 @@
 -- Clauses: what an end of an instruction says of one spot of the frame after it.
-use Rattle.std.specs.Prelude.{◌≡◌, ℕ, ◌||◌, Bool, true, false, not, Option, Some, None}
+use Rattle.std.specs.Prelude.{◌≡◌, ◌||◌, Bool, true, false, not, Option, Some, None}
 use Rattle.ja_facts.specs.Slots.{Slot, Local as InLocal, OnStack as InStack}
 use Rattle.ja_facts.specs.Formulas.{Assignment, any_stacked}
 use Rattle.ja_work.specs.declared.clause.Spot.{Spot}

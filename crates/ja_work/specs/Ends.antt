@@ -1,5 +1,5 @@
 -- The clauses of each end of each operation, from what the analyses say before it.
-use Rattle.std.specs.Prelude.{◌≡◌, ℕ, ◌+◌, ◌-◌, ◌||◌, ◌&&◌, ◌↔◌, min, nat_lt, nat_eq, Bool, true, false, List, Option, Some, None, slice_index, if◌then◌else◌}
+use Rattle.std.specs.Prelude.{◌≡◌, ℕ, ◌+◌, ◌-◌, ◌||◌, ◌&&◌, ◌↔◌, min, nat_lt, nat_eq, Bool, true, false, Option, Some, None, slice_index, if◌then◌else◌}
 use Rattle.ja_base.specs.declared.java_type.Kind.{Kind}
 use Rattle.ja_base.specs.declared.java_type.Kind.TheVariants.{R}
 use Rattle.ja_base.specs.declared.java_type.JavaType.{JavaType}

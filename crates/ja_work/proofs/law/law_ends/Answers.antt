@@ -1,14 +1,3 @@
-use Rattle.std.proofs.Common.{◌≡◌, ◌∙◌, Some, Bool, true, false, refl, sym, ap, subst}
-use Rattle.std.specs.Prelude.{◌↔◌, ℕ}
-use Rattle.ja_ir.specs.declared.program.Parts.{Parts}
-use Rattle.ja_ir.specs.declared.method.Instr.{Instr}
-use Rattle.ja_ir.specs.Lookup.{instr_at}
-use Rattle.ja_ir.specs.Operations.{FindsOperands}
-use Rattle.ja_facts.specs.Analyses.{Analyses}
-use Rattle.ja_facts.specs.Formulas.{Assignment, IsNormalEnd, IsExceptionalEnd}
-use Rattle.ja_work.specs.declared.way.Way.{Way}
-use Rattle.ja_work.specs.Clauses.{AllFit}
-use Rattle.ja_work.specs.Ends.{Tests, AreTests, may_go_on, normal_clauses, may_end, exceptional_clauses}
 use Rattle.ja_work.specs.Told.{told}
 use Rattle.ja_work.proofs.WholeEnds.{normal_fit, fit_normal, exceptional_fit, fit_exceptional}
 use Rattle.ja_work.proofs.OtherEnds.{return_fit, fit_return, throw_fit, fit_throw, caught_fit, fit_caught}
