@@ -4,3 +4,6 @@ pub mod LibraryAnswers
 pub mod NormalEnds
 pub mod OtherEnds
 pub mod WholeEnds
+pub mod Telling
+pub mod Framing
+pub mod Working

@@ -1,5 +1,5 @@
 -- The variables of a frame, and what they say.
-use Rattle.std.specs.Prelude.{ℕ, ◌+◌, ◌-◌, ◌*◌, ◌&&◌, nat_lt, nat_eq, Bool, true, zero, suc, slice_index, if◌then◌else◌}
+use Rattle.std.specs.Prelude.{◌≡◌, ℕ, ◌+◌, ◌-◌, ◌*◌, ◌&&◌, nat_lt, nat_eq, Bool, true, false, zero, suc, slice_index, if◌then◌else◌}
 use Rattle.ja_node_core.specs.Tree.{Assignment as Variables}
 use Rattle.ja_bdd.specs.Functions.{Function}
 use Rattle.ja_facts.specs.Formulas.{Assignment}
@@ -61,3 +61,7 @@ clauses_from frame clauses place (suc count) a = clause_function frame (clauses 
 -- the clauses of all spots of the frame
 abbrev pub whole : Frame → (Spot → Clause) → Function
 whole frame clauses = clauses_from frame clauses 0 (size frame)
+
+-- outside the frame, a spot that is false everywhere there may stay false
+abbrev pub KeepsOutside : Frame → (Spot → Clause) → Type 0
+KeepsOutside frame clauses = (s : Spot) (a : Variables) → is_inside frame s ≡ false → fits (clauses s) (read frame 1 a) false ≡ true
