@@ -9,7 +9,7 @@ use Rattle.ja_work.specs.declared.clause.Spot.{Spot}
 use Rattle.ja_work.specs.declared.clause.Clause.{Clause}
 use Rattle.ja_work.specs.declared.frame.Frame.{Frame}
 use Rattle.ja_work.specs.Frames.{size, spot_at, clause_function, clauses_from}
-use Rattle.ja_work.specs.Work.{IsSet, IsRule, Kind, Says, IsMethod, some_of, IsClauses, one_clause, rest_of_rule, IsPiece, literal, everything, placed, one_literal, IsWork, product, piece, IsWorkTree}
+use Rattle.ja_work.specs.Work.{IsSet, IsRule, Saying, Says, IsMethod, some_of, IsClauses, one_clause, rest_of_rule, IsPiece, literal, everything, placed, one_literal, IsWork, product, piece, IsWorkTree}
 
 module _ (p : Parts) (A : Analyses) (frames : List Frame) where
   -- a function of the work is of its aim
@@ -29,11 +29,11 @@ module _ (p : Parts) (A : Analyses) (frames : List Frame) where
   literal_alone false = refl
 
   -- facts of a method, before or after an instruction, are work
-  pub facts_work : (m : ℕ) (method : Method) (frame : Frame) (kind : Kind p A) (φ : Function) → IsMethod p A frames m method frame → IsSet method frame (Says p A m kind) φ → IsWork p A frames φ
-  facts_work m method frame kind φ is set = product φ (record {
+  pub facts_work : (m : ℕ) (method : Method) (frame : Frame) (saying : Saying p A) (φ : Function) → IsMethod p A frames m method frame → IsSet method frame (Says p A m saying) φ → IsWork p A frames φ
+  facts_work m method frame saying φ is set = product φ (record {
     first = ((λ a. true), everything);
     second = ((λ a. true), everything);
-    third = (φ, placed φ (λ v. v) (some_of kind φ is set) (λ u v looks_u looks_v lt. lt));
+    third = (φ, placed φ (λ v. v) (some_of saying φ is set) (λ u v looks_u looks_v lt. lt));
     clauses = ((λ a. true), everything);
     literal = ((λ a. true), everything);
     is = λ a. third_alone (φ a);

@@ -3,7 +3,9 @@
 use Rattle.std.specs.Prelude.{◌≡◌, ◌⊎◌, ℕ, ◌+◌, ◌/◌, ◌%◌, ◌<◌, ◌&&◌, ◌||◌, nat_lt, nat_eq, not, Bool, true, false, List, [], ◌∷◌, ◌++◌, Some, None, Option, zero, suc, slice_get, if◌then◌else◌}
 use Rattle.ja_ir.specs.declared.program.Parts.{Parts}
 use Rattle.ja_ir.specs.declared.method.Method.{Method}
+use Rattle.ja_base.specs.declared.java_type.Kind.{Kind}
 use Rattle.ja_ir.specs.declared.op.Op.{Op}
+use Rattle.ja_ir.specs.declared.op.Op.TheVariants.{Return}
 use Rattle.ja_ir.specs.declared.op.CallOp.{CallOp}
 use Rattle.ja_ir.specs.Lookup.{OpAt}
 use Rattle.ja_ir.specs.Operations.{arguments}
@@ -13,7 +15,8 @@ use Rattle.ja_node_core.specs.Tree.{Tree, branch, truth, IsReduced, Assignment a
 use Rattle.ja_bdd.specs.Functions.{Function, renamed, KeepsOrder, IsFree}
 use Rattle.ja_bdd.specs.Copies.{forgotten_below, fixed_below}
 use Rattle.ja_facts.specs.Least.{Least}
-use Rattle.ja_facts.specs.Slots.{Slot, Local as InLocal, OnStack as InStack}
+use Rattle.ja_facts.specs.ClassSets.{CallsMethod}
+use Rattle.ja_facts.specs.Slots.{CallAt, Slot, Local as InLocal, OnStack as InStack}
 use Rattle.ja_facts.specs.Crossings.{has_result}
 use Rattle.ja_facts.specs.Analyses.{Analyses}
 use Rattle.ja_facts.specs.Formulas.{Assignment, Summary, any_below, IsNormalEnd, IsExceptionalEnd, IsReturn, IsCallThrown}
@@ -88,10 +91,14 @@ module _ (p : Parts) (A : Analyses) where
   pub data IsRule (m i : ℕ) : (Spot → Clause) → Type 0 where
     normal : {op : Op} {height : ℕ} (tests : Tests) → OpAt p m i op height → AreTests A m i tests → may_go_on tests op ≡ true → IsRule m i (normal_clauses tests op height)
     exceptional : {op : Op} {height : ℕ} (tests : Tests) (way : Way) → OpAt p m i op height → AreTests A m i tests → may_end tests op way ≡ true → IsRule m i (exceptional_clauses way tests op height)
-    returns : {n count under : ℕ} (affected : Slot → Bool) (answers : Bool) (s : Summary) → AreAffected A m i n count under affected → IsRule m i (return_clauses affected under answers s)
-    throws : {n count under : ℕ} (affected : Slot → Bool) (s : Summary) → AreAffected A m i n count under affected → IsRule m i (throw_clauses affected s)
+    returns : {n under : ℕ} {call : CallOp} (affected : Slot → Bool) (s : Summary) → CallAt p m i call under → A.classes (CallsMethod m i n) → AreAffected A m i n (arguments call) under affected
+        → IsRule m i (return_clauses affected under (has_result call.result) s)
+    throws : {n under : ℕ} {call : CallOp} (affected : Slot → Bool) (s : Summary) → CallAt p m i call under → A.classes (CallsMethod m i n) → AreAffected A m i n (arguments call) under affected
+        → IsRule m i (throw_clauses affected s)
+    initialises : {n height : ℕ} {op : Op} (affected : Slot → Bool) (s : Summary) → OpAt p m i op height → InitAt p m i n → AreAffected A m i n 0 height affected → IsRule m i (return_clauses affected height false s)
     caught : IsRule m i caught_clauses
-    ends : (result : Option ℕ) → IsRule m i (end_clauses result)
+    returns_value : {k : ℕ} {kind : Kind} → OpAt p m i (Return (Some kind)) (suc k) → IsRule m i (end_clauses (Some k))
+    returns_nothing : {height : ℕ} → OpAt p m i (Return None) height → IsRule m i (end_clauses None)
     leaves : IsRule m i leave_clauses
 
   -- from the parameters a, an end of instruction i of method m may lead to the assignment c
@@ -107,14 +114,14 @@ module _ (p : Parts) (A : Analyses) where
     after_caught : (b c : Assignment) → IsAfter m i a b → IsCaught b c → IsAfter m i a c
 
   -- what is said of the parameters and the assignment of a set of facts: before instruction i of method m, of the method, or after the instruction
-  pub data Kind : Type 0 where
-    before : (i : ℕ) → Kind
-    of_context : Kind
-    of_return : Kind
-    of_throw : Kind
-    behind : (i : ℕ) → Kind
+  pub data Saying : Type 0 where
+    before : (i : ℕ) → Saying
+    of_context : Saying
+    of_return : Saying
+    of_throw : Saying
+    behind : (i : ℕ) → Saying
 
-  abbrev pub Says : (m : ℕ) → Kind → (a b : Assignment) → Type 0
+  abbrev pub Says : (m : ℕ) → Saying → (a b : Assignment) → Type 0
   Says m (before i) a b = Facts (At m i a b)
   Says m of_context a b = Facts (Context m a)
   Says m of_return a b = Facts (Normal m a (summary_of b)) × TellsSummary b
@@ -129,7 +136,7 @@ module _ (p : Parts) (A : Analyses) where
 
     -- some facts of a method, before or after one of its instructions
     pub data IsSome : Function → Type 0 where
-      some_of : {m : ℕ} {method : Method} {frame : Frame} (kind : Kind) (φ : Function) → IsMethod m method frame → IsSet method frame (Says m kind) φ → IsSome φ
+      some_of : {m : ℕ} {method : Method} {frame : Frame} (saying : Saying) (φ : Function) → IsMethod m method frame → IsSet method frame (Says m saying) φ → IsSome φ
 
     -- one clause of a rule, or those from some place on
     pub data IsClauses : Function → Type 0 where

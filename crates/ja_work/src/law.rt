@@ -16,7 +16,7 @@ ghost use Rattle.ja_work.specs.declared.way.Way.{Way};
 ghost use Rattle.ja_work.specs.Orders.{IsOrder};
 ghost use Rattle.ja_bdd.specs.Functions.{Function, IsAimed};
 ghost use Rattle.ja_work.specs.Frames.{size, spot_at, read, clause_function, clauses_from, whole, KeepsOutside};
-ghost use Rattle.ja_work.specs.Work.{IsSet, IsRule, Kind, Says, IsMethod, literal, IsPiece, IsWorkTree};
+ghost use Rattle.ja_work.specs.Work.{IsSet, IsRule, Saying, Says, IsMethod, literal, IsPiece, IsWorkTree};
 ghost use Rattle.ja_work.specs.Clauses.{AllFit};
 ghost use Rattle.ja_work.specs.Ends.{Tests, AreTests, may_go_on, normal_clauses, may_end, exceptional_clauses, AreAffected, return_clauses, throw_clauses, caught_clauses};
 ghost use Rattle.ja_work.specs.Told.{told, tests_of, affected_of};
@@ -54,8 +54,8 @@ pub fn law_frames()
 /// before or after an instruction, which looks at the variables of facts alone; each literal; and of the
 /// clauses of each end of an instruction, those from some place on, each alone, and its pieces.
 pub fn law_work()
-    ensures facts { (p : Parts) (f : Facts) (frames : List Frame) (m : ℕ) (method : Method) (frame : Frame) (kind : Kind p (told p f)) (φ : Function) → IsMethod p (told p f) frames m method frame
-        → IsSet method frame (Says p (told p f) m kind) φ → IsAimed (IsWorkTree p (told p f) frames) φ }
+    ensures facts { (p : Parts) (f : Facts) (frames : List Frame) (m : ℕ) (method : Method) (frame : Frame) (saying : Saying p (told p f)) (φ : Function) → IsMethod p (told p f) frames m method frame
+        → IsSet method frame (Says p (told p f) m saying) φ → IsAimed (IsWorkTree p (told p f) frames) φ }
     ensures literals { (p : Parts) (f : Facts) (frames : List Frame) (v : ℕ) (positive : Bool) → IsAimed (IsWorkTree p (told p f) frames) (literal v positive) }
     ensures rules { (p : Parts) (f : Facts) (frames : List Frame) (m i : ℕ) (method : Method) (frame : Frame) (clauses : Spot → Clause) (place count : ℕ) → IsMethod p (told p f) frames m method frame → IsRule p (told p f) m i clauses
         → place + count ≡ size frame → IsAimed (IsWorkTree p (told p f) frames) (clauses_from frame clauses place count) }

@@ -5,7 +5,7 @@ use Rattle.ja_work.proofs.Working.{work_aimed, facts_work, literal_work, rest_wo
 use Rattle.ja_work.proofs.law.law_work.Goals as goal
 
 pub returns-clause-facts : goal.returns-clause-facts
-returns-clause-facts c p f frames m method frame kind φ is set = work_aimed p (told p f) frames φ (facts_work p (told p f) frames m method frame kind φ is set)
+returns-clause-facts c p f frames m method frame saying φ is set = work_aimed p (told p f) frames φ (facts_work p (told p f) frames m method frame saying φ is set)
 
 pub returns-clause-literals : goal.returns-clause-literals
 returns-clause-literals c p f frames v positive = work_aimed p (told p f) frames (literal v positive) (literal_work p (told p f) frames v positive)
