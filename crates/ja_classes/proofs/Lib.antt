@@ -1,0 +1,6 @@
+pub mod Solving
+pub mod Meaning
+pub mod Reading
+pub mod NextNames
+pub mod Fired
+pub mod Followed
