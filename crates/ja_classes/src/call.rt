@@ -109,7 +109,8 @@ pub fn call_at<'a>(p: &'a Program, m: u32, i: u32) -> Option<(&'a CallOp, u64)> 
 
 /// Tells what follows where a call goes to a method with code.
 pub fn follow_call(
-    plan: &Plan, p: &Program,
+    plan: &Plan,
+    p: &Program,
     net: &mut Network,
     method: u32,
     index: u32,

@@ -14,11 +14,14 @@ use ja_base::{Memory, Name};
 use ja_ir::{CallOp, MethodAt, Op, Program};
 use ja_network::{Action, Cell, Event, Network};
 use ja_sets::TokenSet;
-use ja_tokens::{ThrownTo, absorbs, at_or_below, fits_shape, lib_token, parr_token, rarr_token, thrown_to};
+use ja_tokens::{
+    ThrownTo, absorbs, at_or_below, fits_shape, lib_token, parr_token, rarr_token, thrown_to,
+};
 
 /// Tells what comes of each token of a set.
 pub fn fire_all(
-    plan: &Plan, p: &Program,
+    plan: &Plan,
+    p: &Program,
     net: &mut Network,
     action: Action,
     set: &TokenSet,
@@ -66,7 +69,11 @@ pub fn fire_all(
 // The name of the type of a parameter of a method.
 fn param_name<'a>(p: &'a Program, m: u32, k: u32) -> Option<&'a Name> {
     let method = method_of(p, m)?;
-    let receiver = if crate::starts::is_static(method) { 0 } else { 1 };
+    let receiver = if crate::starts::is_static(method) {
+        0
+    } else {
+        1
+    };
     if k < receiver {
         return None;
     }
@@ -78,7 +85,8 @@ fn param_name<'a>(p: &'a Program, m: u32, k: u32) -> Option<&'a Name> {
 
 // Gives a cell the tokens of a set that fit the type of a name.
 fn add_fitting(
-    plan: &Plan, p: &Program,
+    plan: &Plan,
+    p: &Program,
     net: &mut Network,
     to: Cell,
     set: &TokenSet,
@@ -104,7 +112,8 @@ fn add_fitting(
 
 // Tells what comes of each token of a set, one after the other.
 fn fire_each(
-    plan: &Plan, p: &Program,
+    plan: &Plan,
+    p: &Program,
     net: &mut Network,
     action: Action,
     set: &TokenSet,
@@ -130,7 +139,13 @@ fn fire_each(
 }
 
 // Tells what comes of a token.
-fn fire(plan: &Plan, p: &Program, net: &mut Network, action: Action, token: u32) -> Result<(), Memory>
+fn fire(
+    plan: &Plan,
+    p: &Program,
+    net: &mut Network,
+    action: Action,
+    token: u32,
+) -> Result<(), Memory>
     requires network { IsNetwork net.old }
     requires size { net.old.tokens ≡ token_count p.now }
     requires plan { IsPlan p.now plan.now }
@@ -193,7 +208,8 @@ fn target_of(plan: &Plan, p: &Program, call: &CallOp, token: u32) -> Option<Meth
 
 // Tells where a call goes on a receiver of a token.
 fn dispatch(
-    plan: &Plan, p: &Program,
+    plan: &Plan,
+    p: &Program,
     net: &mut Network,
     method: u32,
     index: u32,
@@ -227,7 +243,14 @@ fn dispatch(
 }
 
 // Tells where an exception goes.
-fn throw(plan: &Plan, p: &Program, net: &mut Network, m: u32, i: u32, token: u32) -> Result<(), Memory> {
+fn throw(
+    plan: &Plan,
+    p: &Program,
+    net: &mut Network,
+    m: u32,
+    i: u32,
+    token: u32,
+) -> Result<(), Memory> {
     let Some(method) = method_of(p, m) else {
         return Ok(());
     };
@@ -243,7 +266,8 @@ fn throw(plan: &Plan, p: &Program, net: &mut Network, m: u32, i: u32, token: u32
 
 // Tells that a handler takes an exception, and the locals with it.
 fn handle(
-    plan: &Plan, p: &Program,
+    plan: &Plan,
+    p: &Program,
     net: &mut Network,
     method: u32,
     i: u32,
@@ -272,7 +296,14 @@ fn handle(
 }
 
 // Tells that the bags of a token take the arguments of a call.
-fn fill(plan: &Plan, p: &Program, net: &mut Network, m: u32, i: u32, token: u32) -> Result<(), Memory> {
+fn fill(
+    plan: &Plan,
+    p: &Program,
+    net: &mut Network,
+    m: u32,
+    i: u32,
+    token: u32,
+) -> Result<(), Memory> {
     let Some((call, under)) = call_at(p, m, i) else {
         return Ok(());
     };
@@ -285,7 +316,13 @@ fn fill(plan: &Plan, p: &Program, net: &mut Network, m: u32, i: u32, token: u32)
 }
 
 // Tells that what leads to an object of a token leads to what it has.
-fn expand(plan: &Plan, p: &Program, net: &mut Network, start: u32, token: u32) -> Result<(), Memory> {
+fn expand(
+    plan: &Plan,
+    p: &Program,
+    net: &mut Network,
+    start: u32,
+    token: u32,
+) -> Result<(), Memory> {
     let to = Cell::Span { token: start };
     for (f, field) in p.fields().as_slice().iter().enumerate() {
         if field.flags & 0x0008 == 0 && at_or_below(p, token, field.class.0) {

@@ -58,7 +58,8 @@ pub fn link(net: &mut Network, from: Cell, action: Action) -> Result<(), Memory>
 
 /// Tells that a library object is thrown by an instruction.
 pub fn throw_library(
-    plan: &Plan, p: &Program,
+    plan: &Plan,
+    p: &Program,
     net: &mut Network,
     method: u32,
     index: u32,
@@ -69,11 +70,7 @@ pub fn throw_library(
     ensures network { OnOk result (IsNetwork net.new) }
     ensures extends { OnOk result (Extends net.old net.new (λ f. f ≡ HasToken (Thrown method index) (lib_token p.now))) }
 {
-    net.add(
-        plan.alloc,
-        Cell::Thrown { method, index },
-        lib_token(p),
-    )
+    net.add(plan.alloc, Cell::Thrown { method, index }, lib_token(p))
 }
 
 // Tells what follows where an instruction may run.
@@ -106,7 +103,8 @@ fn follow_reached(plan: &Plan, p: &Program, net: &mut Network, m: u32, i: u32) -
 
 // Tells that control goes on behind an instruction, and values with it.
 fn follow_next(
-    plan: &Plan, p: &Program,
+    plan: &Plan,
+    p: &Program,
     net: &mut Network,
     m: u32,
     i: u32,
@@ -174,7 +172,14 @@ fn words_of(method: &Method, k: u64) -> u64 {
 }
 
 // Tells what an instruction throws whatever is there, and that what it throws goes somewhere.
-fn follow_throws(plan: &Plan, p: &Program, net: &mut Network, m: u32, i: u32, op: &Op) -> Result<(), Memory>
+fn follow_throws(
+    plan: &Plan,
+    p: &Program,
+    net: &mut Network,
+    m: u32,
+    i: u32,
+    op: &Op,
+) -> Result<(), Memory>
     requires network { IsNetwork net.old }
     requires size { net.old.tokens ≡ token_count p.now }
     requires plan { IsPlan p.now plan.now }
@@ -216,7 +221,8 @@ fn follow_throws(plan: &Plan, p: &Program, net: &mut Network, m: u32, i: u32, op
 
 // Tells what an operation makes, and where what it takes goes.
 fn follow_op(
-    plan: &Plan, p: &Program,
+    plan: &Plan,
+    p: &Program,
     net: &mut Network,
     m: u32,
     i: u32,
@@ -287,7 +293,8 @@ fn add_single(plan: &Plan, p: &Program, net: &mut Network, token: u32) -> Result
 
 // Tells that an array is made, and what is in its bag then.
 fn follow_array(
-    plan: &Plan, p: &Program,
+    plan: &Plan,
+    p: &Program,
     net: &mut Network,
     last: Token,
     dimensions: u32,

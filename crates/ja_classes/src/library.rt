@@ -15,7 +15,8 @@ use ja_tokens::{bagged_tokens, fits_shape, fresh_tokens, rarr_token};
 
 /// Tells what follows where a call goes to the library.
 pub fn follow_library(
-    plan: &Plan, p: &Program,
+    plan: &Plan,
+    p: &Program,
     net: &mut Network,
     method: u32,
     index: u32,
@@ -86,7 +87,8 @@ fn link_result(
 
 // Tells what is made new for the result.
 fn add_fresh(
-    plan: &Plan, p: &Program,
+    plan: &Plan,
+    p: &Program,
     net: &mut Network,
     method: u32,
     index: u32,

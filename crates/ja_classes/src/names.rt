@@ -48,7 +48,12 @@ fn method_names(
                 next_row(alloc, p, m, i, &code[i as usize].op, rows.at(i as u64))?
             }
             _ if code[j].reached => {
-                own_row(alloc, m, j as u32, method.locals as u64 + code[j].height as u64)?
+                own_row(
+                    alloc,
+                    m,
+                    j as u32,
+                    method.locals as u64 + code[j].height as u64,
+                )?
             }
             _ => Seq::new(alloc),
         };

@@ -51,7 +51,11 @@ fn pops(op: &Op) -> u64 {
 /// The number of arguments of a call, a receiver among them.
 pub fn arguments(call: &CallOp) -> u64 {
     let params = call.params.as_slice().len() as u64;
-    if has_receiver(call) { params + 1 } else { params }
+    if has_receiver(call) {
+        params + 1
+    } else {
+        params
+    }
 }
 
 /// Whether a call has a receiver.
@@ -81,7 +85,11 @@ pub fn is_made(p: &Program, token: u32) -> bool {
 
 /// The token of a new array of so many dimensions whose innermost is of this token.
 pub fn outer_token(p: &Program, last: Token, dimensions: u32) -> u32 {
-    if dimensions <= 1 { last.0 } else { rarr_token(p) }
+    if dimensions <= 1 {
+        last.0
+    } else {
+        rarr_token(p)
+    }
 }
 
 // Adds the cells of what an instruction pushes, where this is no copy of what was there.

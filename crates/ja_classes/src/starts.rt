@@ -39,7 +39,8 @@ pub fn start(plan: &Plan, p: &Program, net: &mut Network) -> Result<(), Memory>
 
 // Tells what an entry does at first.
 fn start_entry(
-    plan: &Plan, p: &Program,
+    plan: &Plan,
+    p: &Program,
     net: &mut Network,
     entry: &Entry,
     method: &Method,
@@ -55,7 +56,11 @@ fn start_entry(
     }
     let params = method.types.params.as_slice();
     for k in 0..params.len() {
-        let param = if is_static(method) { k as u32 } else { k as u32 + 1 };
+        let param = if is_static(method) {
+            k as u32
+        } else {
+            k as u32 + 1
+        };
         for token in fresh_tokens(plan.alloc, p, &plan.classes, &params[k])?.as_slice() {
             net.add(plan.alloc, Cell::Environment, *token)?;
         }
@@ -73,7 +78,12 @@ fn start_entry(
 }
 
 // Tells that the environment makes the receiver of an entry.
-fn start_receiver(plan: &Plan, p: &Program, net: &mut Network, entry: &Entry) -> Result<(), Memory> {
+fn start_receiver(
+    plan: &Plan,
+    p: &Program,
+    net: &mut Network,
+    entry: &Entry,
+) -> Result<(), Memory> {
     let token = entry.class.0;
     net.add(plan.alloc, Cell::Environment, token)?;
     let receiver = Cell::Param {

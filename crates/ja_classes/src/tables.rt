@@ -25,7 +25,13 @@ impl Pool {
     }
 
     /// The name of the set of a cell.
-    pub fn name(&mut self, plan: &Plan, p: &Program, net: &Network, cell: Cell) -> Result<u32, Memory> {
+    pub fn name(
+        &mut self,
+        plan: &Plan,
+        p: &Program,
+        net: &Network,
+        cell: Cell,
+    ) -> Result<u32, Memory> {
         if let Some(name) = self.names.get(&cell) {
             return Ok(*name);
         }
@@ -77,14 +83,18 @@ pub fn sets_of(plan: &Plan, p: &Program, net: &Network) -> Result<ClassSets, Mem
 
 // The names of the sets of the slots before an instruction; of one that is not reached there are none.
 fn names_at(
-    plan: &Plan, p: &Program,
+    plan: &Plan,
+    p: &Program,
     net: &Network,
     pool: &mut Pool,
     m: u32,
     i: u32,
 ) -> Result<Seq<u32>, Memory> {
     let mut names = Seq::new(plan.alloc);
-    if net.happens(Event::Reached { method: m, index: i })
+    if net.happens(Event::Reached {
+        method: m,
+        index: i,
+    })
         && let Some(row) = plan.row(m, i)
     {
         for cell in row.as_slice() {
@@ -95,7 +105,12 @@ fn names_at(
 }
 
 // Writes what is in parameters, results and what methods throw.
-fn write_methods(plan: &Plan, p: &Program, net: &Network, sets: &mut ClassSets) -> Result<(), Memory> {
+fn write_methods(
+    plan: &Plan,
+    p: &Program,
+    net: &Network,
+    sets: &mut ClassSets,
+) -> Result<(), Memory> {
     for (m, info) in p.methods().as_slice().iter().enumerate() {
         let method = m as u32;
         for k in 0..param_count(info) {
@@ -112,7 +127,12 @@ fn write_methods(plan: &Plan, p: &Program, net: &Network, sets: &mut ClassSets) 
 }
 
 // Writes what is in fields and bags.
-fn write_objects(plan: &Plan, p: &Program, net: &Network, sets: &mut ClassSets) -> Result<(), Memory> {
+fn write_objects(
+    plan: &Plan,
+    p: &Program,
+    net: &Network,
+    sets: &mut ClassSets,
+) -> Result<(), Memory> {
     for f in 0..p.fields().len() {
         let field = f as u32;
         let set = net.tokens_of(plan.alloc, Cell::Field { field })?;

@@ -65,7 +65,12 @@ fn ways_of(plan: &Plan, net: &Network) -> Result<Vec<Way>, Memory> {
 }
 
 // Says where each call goes.
-fn share_targets(plan: &Plan, p: &Program, net: &Network, graph: &mut CallGraph) -> Result<(), Memory> {
+fn share_targets(
+    plan: &Plan,
+    p: &Program,
+    net: &Network,
+    graph: &mut CallGraph,
+) -> Result<(), Memory> {
     let ways = ways_of(plan, net)?;
     let mut from: usize = 0;
     let mut pool = Rows::new(plan.alloc);
@@ -97,7 +102,12 @@ fn share_targets(plan: &Plan, p: &Program, net: &Network, graph: &mut CallGraph)
 }
 
 // Says which tokens take the arguments of each call.
-fn share_takers(plan: &Plan, p: &Program, net: &Network, graph: &mut CallGraph) -> Result<(), Memory> {
+fn share_takers(
+    plan: &Plan,
+    p: &Program,
+    net: &Network,
+    graph: &mut CallGraph,
+) -> Result<(), Memory> {
     let mut pool = Pool::new(plan, p)?;
     let mut numbers = Rows::new(plan.alloc);
     for (m, info) in p.methods().as_slice().iter().enumerate() {
@@ -109,7 +119,8 @@ fn share_takers(plan: &Plan, p: &Program, net: &Network, graph: &mut CallGraph) 
 
 // The numbers of the takers of each instruction of a method.
 fn taker_numbers(
-    plan: &Plan, p: &Program,
+    plan: &Plan,
+    p: &Program,
     net: &Network,
     pool: &mut Pool,
     method: u32,

@@ -1,5 +1,5 @@
 -- A set that is gone through from one of its tokens to the next.
-use Rattle.std.proofs.Common.{◌≡◌, ◌⊎◌, ◌↔◌, inl, inr, ℕ, suc, ◌+◌, ◌<◌, ◌≤◌, Bool, true, false, List, Option, Some, None, is_some, IfNone, IsTrue, length, replicate, refl, sym, ap, subst, ◌∙◌, true≢false, arith}
+use Rattle.std.proofs.Common.{◌≡◌, ◌⊎◌, ◌↔◌, inl, inr, ℕ, ◌+◌, ◌<◌, Bool, false, List, Option, Some, None, is_some, IfNone, IsTrue, length, replicate, refl, sym, ap, subst, ◌∙◌, true≢false, arith}
 use Rattle.std.proofs.lemmas.Bool.{cases_lt, cases_eq}
 use Rattle.std.proofs.Math.ListN.{length-replicate}
 use Rattle.ja_sets.specs.Sets.{Has, Lacks, IsNext, HasNoneFrom, union}
@@ -15,9 +15,9 @@ up_to-next set from x next t = (
   λ h. elim (cases_lt t from) [
     | inl below ↦ inl (h.0, below)
     | inr above ↦ elim (cases_eq t x) [
-        | inl e ↦ inr e
-        | inr ne ↦ let lt : t < x = let l = h.1 in omega arith in not_both set t h.0 (next.first t above lt)
-      ]
+      | inl e ↦ inr e
+      | inr ne ↦ let lt : t < x = let l = h.1 in omega arith in not_both set t h.0 (next.first t above lt)
+    ]
   ],
   λ either. elim either [
     | inl h ↦ (h.0, let l = h.1 in let a = next.above in omega arith)
@@ -46,12 +46,12 @@ gains_more old mid new S T x first second same = record {
     λ either. (second.fresh t).1 (elim either [
       | inl was ↦ inl ((first.fresh t).1 (inl was))
       | inr now ↦ elim ((same t).0 now.0) [
-          | inl s ↦ inl ((first.fresh t).1 (inr (s, now.1)))
-          | inr e ↦ elim (has_or_lacks mid.has t) [
-              | inr not ↦ inr (e, not)
-              | inl has ↦ elim ((first.has t).0 has) [ inl had ↦ not_both old.has t had now.1 | inr s ↦ inl ((first.fresh t).1 (inr (s, now.1))) ]
-            ]
+        | inl s ↦ inl ((first.fresh t).1 (inr (s, now.1)))
+        | inr e ↦ elim (has_or_lacks mid.has t) [
+          | inr not ↦ inr (e, not)
+          | inl has ↦ elim ((first.has t).0 has) [ inl had ↦ not_both old.has t had now.1 | inr s ↦ inl ((first.fresh t).1 (inr (s, now.1))) ]
         ]
+      ]
     ]),
   );
   has_size = second.has_size ∙ first.has_size;

@@ -1,5 +1,5 @@
 -- `==` tells whether cells, actions and events are the same.
-use Rattle.std.proofs.Common.{◌≡◌, ℕ, Bool, true, false, ◌&&◌, eqb, Decides, refl, ap, subst, ◌∙◌}
+use Rattle.std.proofs.Common.{◌≡◌, Bool, true, ◌&&◌, eqb, Decides, refl, ap, subst}
 use Rattle.std.proofs.lemmas.Bool.{and_parts, and_from, false≢true, eqb-true, eq-eqb}
 use Rattle.ja_network.specs.declared.cell.Cell.{Cell}
 use Rattle.ja_network.specs.declared.cell.Cell.TheVariants.{Nothing, Environment, Single, Field, Bag, Span, Param, Answer, Out, Thrown, Takers, Pushed, Before}

@@ -1,12 +1,12 @@
 -- What a network keeps where one cell changes, and what it then tells.
-use Rattle.std.proofs.Common.{◌≡◌, ◌⊎◌, ◌↔◌, inl, inr, ℕ, zero, suc, ◌+◌, ◌-◌, ◌<◌, ◌≤◌, Bool, true, false, ◌||◌, cond, List, [], ◌∷◌, ◌++◌, Option, Some, None, unwrap_or, length, take, drop, get_or, replicate, Decides, refl, sym, ap, subst, ◌∙◌, true≢false, arith}
+use Rattle.std.proofs.Common.{◌≡◌, ◌⊎◌, ◌↔◌, inl, inr, ℕ, zero, suc, ◌+◌, ◌-◌, ◌<◌, ◌≤◌, Bool, true, false, ◌||◌, List, [], ◌∷◌, ◌++◌, Option, Some, None, unwrap_or, length, take, drop, get_or, replicate, refl, sym, ap, subst, ◌∙◌, true≢false, arith}
 use Rattle.std.specs.Prelude.{Contains, slice_get, if◌then◌else◌}
-use Rattle.std.specs.HashMap.{HashMap, get}
+use Rattle.std.specs.HashMap.{get}
 use Rattle.std.proofs.lemmas.Bool.{cases_Bool}
 use Rattle.std.proofs.lemmas.List.{take-append-le, drop-append-le, length-append, length-drop, append-nil, take_more, drop_more, take_all}
 use Rattle.std.proofs.Math.ListN.{length-replicate}
 use Rattle.std.specs.List.{list_any}
-use Rattle.std.proofs.lemmas.List.Elements.{Contains-append_left, Contains-append_right, Contains-push, Contains-push_cases}
+use Rattle.std.proofs.lemmas.List.Elements.{Contains-append_left, Contains-push, Contains-push_cases}
 use Rattle.std.proofs.lemmas.Option.{slice_get_within, get_or_from_slice_get, same_Some}
 use Rattle.indexmap.proofs.CallerLemmas.{Contains-insert_key}
 use Rattle.ja_sets.specs.Sets.{Has, Lacks}
@@ -173,9 +173,9 @@ module _ (old new : Network) (c : Cell) (state : CellState) (S : ℕ → Type 0)
           λ either. (gains.has t).1 (elim either [ inl before ↦ inl before | inr came ↦ inr came.1 ]),
         ))
     | inr ne ↦ subst (λ (s : CellState). Has s.has t ↔ (Has (state_of old d).has t ⊎ ((d ≡ c) × S t))) (sym (ch.elsewhere d ne)) (
-        λ h. inl h,
-        λ either. elim either [ inl before ↦ before | inr came ↦ absurd (ne came.0) ],
-      )
+      λ h. inl h,
+      λ either. elim either [ inl before ↦ before | inr came ↦ absurd (ne came.0) ],
+    )
   ]
   tells (Happens e) = (λ h. inl ((told_events e).0 h), λ either. (told_events e).1 (elim either [ inl h ↦ h | inr nay ↦ absurd nay ]))
 
@@ -184,9 +184,9 @@ module _ (old new : Network) (c : Cell) (state : CellState) (S : ℕ → Type 0)
     λ h. elim (has_or_lacks (state_of old c).has t) [
       | inl had ↦ (had, lacks (state_of old c).fresh t (λ before. not_both state.fresh t ((gains.fresh t).1 (inl before)) h.1))
       | inr not ↦ elim ((gains.has t).0 h.0) [
-          | inl had ↦ not_both (state_of old c).has t had not
-          | inr came ↦ not_both state.fresh t ((gains.fresh t).1 (inr (came, not))) h.1
-        ]
+        | inl had ↦ not_both (state_of old c).has t had not
+        | inr came ↦ not_both state.fresh t ((gains.fresh t).1 (inr (came, not))) h.1
+      ]
     ],
     λ h. (
       (gains.has t).1 (inl h.0),
@@ -434,9 +434,9 @@ module _ (old new : Network) (c : Cell) (done : List Bool) (state : CellState) (
             elim (has_or_lacks (state_of old c).fresh t) [
               | inr old_done ↦ inl (had, old_done)
               | inl was ↦ elim (has_or_lacks done t) [
-                  | inl now ↦ inr (had, (refl, now))
-                  | inr not ↦ not_both state.fresh t ((left t).1 (was, not)) h.1
-                ]
+                | inl now ↦ inr (had, (refl, now))
+                | inr not ↦ not_both state.fresh t ((left t).1 (was, not)) h.1
+              ]
             ],
         λ either. elim either [
           | inl h ↦ (subst (λ (set : List Bool). Has set t) (sym has) h.0, lacks state.fresh t (λ f. not_both (state_of old c).fresh t ((left t).0 f).0 h.1))

@@ -1,5 +1,5 @@
 -- The state of a cell.
-use Rattle.std.specs.Prelude.{◌≡◌, ℕ, ◌⊎◌, ◌↔◌, Bool, false, List, [], length, replicate}
+use Rattle.std.specs.Prelude.{◌≡◌, ℕ, ◌⊎◌, ◌↔◌, false, [], length, replicate}
 use Rattle.ja_sets.specs.Sets.{Has, Lacks}
 use Rattle.ja_network.specs.declared.state.CellState.{CellState}
 

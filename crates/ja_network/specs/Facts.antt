@@ -1,5 +1,5 @@
 -- The facts that a network tells, and which of them are settled: worked on.
-use Rattle.std.specs.Prelude.{◌≡◌, ℕ, ◌⊎◌, ◌↔◌, ◌<◌, ◌≤◌, Bool, true, false, List, [], ◌∷◌, ◌++◌, Option, Some, None, Contains, length, take, drop, slice_get, if◌then◌else◌}
+use Rattle.std.specs.Prelude.{◌≡◌, ℕ, ◌⊎◌, ◌↔◌, ◌≤◌, Bool, true, List, [], ◌∷◌, ◌++◌, Some, Contains, length, take, drop, slice_get, if◌then◌else◌}
 use Rattle.std.specs.Option.{unwrap_or}
 use Rattle.std.specs.HashMap.{get}
 use Rattle.ja_sets.specs.Sets.{Has, Lacks}

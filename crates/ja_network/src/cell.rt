@@ -62,15 +62,34 @@ pub enum Action {
 #[derive(Clone, Copy, PartialEq, Eq, Hash)]
 pub enum Event {
     /// An instruction may run.
-    Reached { method: u32, index: u32 },
+    Reached {
+        method: u32,
+        index: u32,
+    },
     /// A call may go to a method with code.
-    Calls { method: u32, index: u32, target: u32 },
+    Calls {
+        method: u32,
+        index: u32,
+        target: u32,
+    },
     /// A call may go to a method without code.
-    CallsAbstract { method: u32, index: u32, target: u32 },
+    CallsAbstract {
+        method: u32,
+        index: u32,
+        target: u32,
+    },
     /// A call may go to the library.
-    CallsLibrary { method: u32, index: u32 },
+    CallsLibrary {
+        method: u32,
+        index: u32,
+    },
     /// What an object of a token leads to is asked for.
-    Spanned { token: u32 },
+    Spanned {
+        token: u32,
+    },
     /// Something is done with each token of a cell.
-    Linked { from: Cell, action: Action },
+    Linked {
+        from: Cell,
+        action: Action,
+    },
 }

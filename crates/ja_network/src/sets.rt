@@ -17,12 +17,7 @@ pub fn copied(alloc: Global, n: u32, set: &TokenSet) -> Result<TokenSet, Memory>
 }
 
 /// The tokens of a set below `n` that are not in another.
-pub fn without(
-    alloc: Global,
-    n: u32,
-    set: &TokenSet,
-    other: &TokenSet,
-) -> Result<TokenSet, Memory>
+pub fn without(alloc: Global, n: u32, set: &TokenSet, other: &TokenSet) -> Result<TokenSet, Memory>
     requires set { length set.now ≡ n }
     requires other { length other.now ≡ n }
     ensures left { IfOk result (λ rest. (t : ℕ) → Has rest t ↔ (Has set.now t × Lacks other.now t)) }

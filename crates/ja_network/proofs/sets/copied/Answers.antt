@@ -1,4 +1,4 @@
-use Rattle.std.proofs.Common.{◌≡◌, false, List, Bool, replicate, ap, ◌∙◌}
+use Rattle.std.proofs.Common.{List, Bool, ap, ◌∙◌}
 use Rattle.ja_sets.specs.Sets.{union}
 use Rattle.ja_network.proofs.Gaining.{copy-same, copy-size}
 use Rattle.ja_network.proofs.sets.copied.Goals as goal

@@ -1,4 +1,4 @@
-use Rattle.std.proofs.Common.{◌≡◌, ◌+◌, ◌↔◌, ℕ, List, false, ◌||◌, sym, ap, subst, ◌∙◌}
+use Rattle.std.proofs.Common.{◌≡◌, ◌+◌, ◌↔◌, ℕ, List, false, sym, ap, subst, ◌∙◌}
 use Rattle.ja_sets.specs.Sets.{Has, Lacks}
 use Rattle.ja_network.specs.declared.cell.Cell.{Cell}
 use Rattle.ja_network.specs.declared.state.CellState.{CellState}
@@ -14,7 +14,7 @@ returns-clause-network c =
     let taken = c.take_state.ensures in
     ended_network c.args.self.now (record c.put_state.new.self { turned = c.put_state.new.self.turned + 1 }) c.args.cell c.args.done.now
     (record c.in_ok-state.state { fresh = c.in_ok-state-2.field-0; queued = false }) c.is_some-waits.result c.requires.network c.requires.next
-    (ap (λ (s : CellState). s.has) is) (ap (λ (s : CellState). s.links) is) c.in_ok-state-2.ensures.size
+    (ap (λ (s : CellState). s.has) is) (ap (λ (s : CellState). s.links) is) (c.in_ok-state-2.ensures.size ∙ taken.outside.tokens)
     (subst (λ (s : CellState). (t : ℕ) → Has c.in_ok-state-2.field-0 t ↔ (Has s.fresh t × Lacks c.args.done.now t)) is c.in_ok-state-2.ensures.left)
     (λ e. none-left c.in_ok-state-2.field-0 c.next_from.result c.next_from.ensures.none (sym c.is_some-waits.ensures ∙ e))
     (puts.here ∙ c.in_ok-await_turn.ensures.state) (λ d ne. puts.elsewhere d ne ∙ taken.elsewhere d ne)
@@ -28,7 +28,7 @@ returns-clause-settles c =
     let taken = c.take_state.ensures in
     ended_settles c.args.self.now (record c.put_state.new.self { turned = c.put_state.new.self.turned + 1 }) c.args.cell c.args.done.now
     (record c.in_ok-state.state { fresh = c.in_ok-state-2.field-0; queued = false }) c.is_some-waits.result c.requires.network c.requires.next
-    (ap (λ (s : CellState). s.has) is) (ap (λ (s : CellState). s.links) is) c.in_ok-state-2.ensures.size
+    (ap (λ (s : CellState). s.has) is) (ap (λ (s : CellState). s.links) is) (c.in_ok-state-2.ensures.size ∙ taken.outside.tokens)
     (subst (λ (s : CellState). (t : ℕ) → Has c.in_ok-state-2.field-0 t ↔ (Has s.fresh t × Lacks c.args.done.now t)) is c.in_ok-state-2.ensures.left)
     (λ e. none-left c.in_ok-state-2.field-0 c.next_from.result c.next_from.ensures.none (sym c.is_some-waits.ensures ∙ e))
     (puts.here ∙ c.in_ok-await_turn.ensures.state) (λ d ne. puts.elsewhere d ne ∙ taken.elsewhere d ne)

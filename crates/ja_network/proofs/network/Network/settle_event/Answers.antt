@@ -1,6 +1,4 @@
-use Rattle.std.proofs.Common.{◌≡◌, ◌+◌, ◌<◌, length, ap, refl, arith}
-use Rattle.std.proofs.lemmas.Option.{slice_get_within}
-use Rattle.ja_network.specs.Facts.{events_of}
+use Rattle.std.proofs.Common.{◌+◌, ap}
 use Rattle.ja_network.proofs.Steps.{seen_network, seen_settles}
 use Rattle.ja_network.proofs.network.Network.settle_event.Goals as goal
 
