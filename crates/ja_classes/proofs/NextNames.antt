@@ -35,6 +35,21 @@ module _ (p : Parts) (m i j height : ℕ) (op : Op) (row : List Cell) (reached :
   pub moves : (z y : Slot) (t : ℕ) → Copies op height z y → Passes p op height z t → Classes p (InSlot m i z t) → Classes p (InSlot m j y t)
   moves z y t copy pass h = Least-is_solution (Rule p) (Reached m i ∷ InSlot m i z t ∷ []) (InSlot m j y t) (moved at leads copy pass) (reached, (h, tt))
 
+  -- what is left stays where it is, but for a local that is stored to
+  pub kept-sound : ((l t : ℕ) → Passes p op height (Local l) t) → ((k t : ℕ) → pops op + k < height → Passes p op height (OnStack k) t)
+      → (y t : ℕ) → (y < locals_of (slice_get p.methods m) → KeepsLocal op y) → y < length row - pops op → Classes p (InSlot m i (slot_of p m y) t) → Classes p (InSlot m j (slot_of p m y) t)
+  kept-sound pass_local pass_stack y t keeps below h = elim (cases_lt y (locals_of (slice_get p.methods m))) [
+    | inl local ↦
+        let is : slot_of p m y ≡ Local y = slot-local p m y local in
+        subst (λ (s : Slot). Classes p (InSlot m j s t)) (sym is) (moves (Local y) (Local y) t (kept_local (keeps local)) (pass_local y t) (subst (λ (s : Slot). Classes p (InSlot m i s t)) is h))
+    | inr stack ↦
+        let split : y ≡ locals_of (slice_get p.methods m) + (y - locals_of (slice_get p.methods m)) = omega arith in
+        let is : slot_of p m y ≡ OnStack (y - locals_of (slice_get p.methods m)) = ap (slot_of p m) split ∙ slot-stack p m (y - locals_of (slice_get p.methods m)) in
+        let room : pops op + (y - locals_of (slice_get p.methods m)) < height = omega arith in
+        subst (λ (s : Slot). Classes p (InSlot m j s t)) (sym is)
+        (moves (OnStack (y - locals_of (slice_get p.methods m))) (OnStack (y - locals_of (slice_get p.methods m))) t (kept_stack room) (pass_stack (y - locals_of (slice_get p.methods m)) t room) (subst (λ (s : Slot). Classes p (InSlot m i s t)) is h))
+  ]
+
   -- an operation that copies nothing but what it leaves, and pushes what its pushed cells mean
   pub plain-sound : ((l : ℕ) → KeepsLocal op l) → ((l t : ℕ) → Passes p op height (Local l) t) → ((k t : ℕ) → pops op + k < height → Passes p op height (OnStack k) t)
       → ((y t : ℕ) → MeansToken p (get_or (pushed_cells p m i op) y Nothing) t → Classes p (InSlot m j (OnStack ((height - pops op) + y)) t))
@@ -46,25 +61,11 @@ module _ (p : Parts) (m i j height : ℕ) (op : Op) (row : List Cell) (reached :
             let in_left : y < length (without_last (pops op) row) = omega arith in
             let same : get_or (without_last (pops op) row ++ pushed_cells p m i op) y Nothing ≡ get_or row y Nothing =
             get_or_append_left (without_last (pops op) row) (pushed_cells p m i op) Nothing y in_left ∙ get_or-take (length row - pops op) row y Nothing below in
-            kept y t below (sound y t (subst (λ (c : Cell). MeansToken p c t) same h))
+            kept-sound pass_local pass_stack y t (λ local. keeps y) below (sound y t (subst (λ (c : Cell). MeansToken p c t) same h))
         | inr past ↦
-            let n : ℕ = y - (length row - pops op) in
             let same : get_or (without_last (pops op) row ++ pushed_cells p m i op) y Nothing ≡ get_or (pushed_cells p m i op) (y - (length row - pops op)) Nothing =
             get_or-append_right (without_last (pops op) row) (pushed_cells p m i op) (length row - pops op) y Nothing left past in
             let is : y ≡ locals_of (slice_get p.methods m) + ((height - pops op) + (y - (length row - pops op))) = omega arith in
             subst (λ (s : Slot). Classes p (InSlot m j s t)) (sym (ap (slot_of p m) is ∙ slot-stack p m ((height - pops op) + (y - (length row - pops op)))))
             (pushed (y - (length row - pops op)) t (subst (λ (c : Cell). MeansToken p c t) same h))
-      ]
-    where
-      kept : (y t : ℕ) → y < length row - pops op → Classes p (InSlot m i (slot_of p m y) t) → Classes p (InSlot m j (slot_of p m y) t)
-      kept y t below h = elim (cases_lt y (locals_of (slice_get p.methods m))) [
-        | inl local ↦
-            let is : slot_of p m y ≡ Local y = slot-local p m y local in
-            subst (λ (s : Slot). Classes p (InSlot m j s t)) (sym is) (moves (Local y) (Local y) t (kept_local (keeps y)) (pass_local y t) (subst (λ (s : Slot). Classes p (InSlot m i s t)) is h))
-        | inr stack ↦
-            let split : y ≡ locals_of (slice_get p.methods m) + (y - locals_of (slice_get p.methods m)) = omega arith in
-            let is : slot_of p m y ≡ OnStack (y - locals_of (slice_get p.methods m)) = ap (slot_of p m) split ∙ slot-stack p m (y - locals_of (slice_get p.methods m)) in
-            let room : pops op + (y - locals_of (slice_get p.methods m)) < height = omega arith in
-            subst (λ (s : Slot). Classes p (InSlot m j s t)) (sym is)
-            (moves (OnStack (y - locals_of (slice_get p.methods m))) (OnStack (y - locals_of (slice_get p.methods m))) t (kept_stack room) (pass_stack (y - locals_of (slice_get p.methods m)) t room) (subst (λ (s : Slot). Classes p (InSlot m i s t)) is h))
       ]
