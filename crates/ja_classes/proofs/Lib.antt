@@ -6,3 +6,5 @@ pub mod NextOps
 pub mod Fired
 pub mod Followed
 pub mod Reached
+pub mod Named
+pub mod Sound

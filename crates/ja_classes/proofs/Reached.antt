@@ -19,11 +19,13 @@ use Rattle.ja_ir.specs.declared.method.Catch.TheVariants as catches
 use Rattle.ja_ir.specs.declared.entry.Entry.{Entry}
 use Rattle.ja_ir.specs.declared.op.CallOp.{CallOp}
 use Rattle.ja_ir.specs.declared.op.Op.{Op}
-use Rattle.ja_ir.specs.declared.op.Op.TheVariants.{Call}
+use Rattle.ja_ir.specs.declared.op.Op.TheVariants.{New, GetStatic, PutStatic, Call}
+use Rattle.ja_ir.specs.declared.op.CallKind.{CallKind}
+use Rattle.ja_ir.specs.declared.op.CallKind.TheVariants as kinds
 use Rattle.ja_ir.specs.Lookup.{HasCode, OpAt, Leads, code_of, instr_at, at_or_below, select, selection_among, selections_of}
 use Rattle.ja_ir.specs.Handlers.{Place, Inside, Outside, dest, dest_at, dest_among, handlers_of, in_range}
-use Rattle.ja_ir.specs.Initializing.{InitAt, inits_of_class}
-use Rattle.ja_ir.specs.Whole.{IsWhole, IsWholeEntry, IsAnswer, IsDescribed, IsReachedAt, Starts, Runs, NamesInitializer, IsWholeMethod}
+use Rattle.ja_ir.specs.Initializing.{InitAt, inits_of_class, inits_of_field, inits_of_method, inits_of_call, inits_of}
+use Rattle.ja_ir.specs.Whole.{IsWhole, IsWholeEntry, IsWholeSelection, IsAnswer, IsFound, IsDescribed, IsReachedAt, Starts, Runs, NamesInitializer, IsWholeMethod}
 use Rattle.ja_ir.proofs.Entered.{constructor-says}
 use Rattle.ja_facts.specs.Least.{Each, IsSolution}
 use Rattle.ja_facts.proofs.LeastLaws.{Least-below}
@@ -116,14 +118,101 @@ module _ (p : Parts) (whole : IsWhole p) where
   -- ---- the rules keep what is said
 
   -- the method of an instruction
-  instr-method : (m i : ℕ) (instr : Instr) → instr_at p m i ≡ Some instr → (method : Method) × (slice_get p.methods m ≡ Some method) × (slice_get method.code i ≡ Some instr)
+  pub instr-method : (m i : ℕ) (instr : Instr) → instr_at p m i ≡ Some instr → (method : Method) × (slice_get p.methods m ≡ Some method) × (slice_get method.code i ≡ Some instr)
   instr-method m i instr found = by (slice_get p.methods m) refl found
     where
       by : (o : Option Method) → slice_get p.methods m ≡ o → slice_get (code_of o) i ≡ Some instr → (method : Method) × (slice_get p.methods m ≡ Some method) × (slice_get method.code i ≡ Some instr)
       by None e f = absurd (cc f)
       by (Some method) e f = (method, e, f)
 
-  runs : (m i : ℕ) → IsReachedIn p m i → (method : Method) × (slice_get p.methods m ≡ Some method) × ((instr : Instr) × (slice_get method.code i ≡ Some instr) × Runs method i instr)
-  runs m i r =
-      let at = instr-method m i r.instr r.found in
-      (at.0, at.1, (r.instr, at.2, all-at (λ (x : Method). (k : ℕ) (instr : Instr) → slice_get x.code k ≡ Some instr → instr.reached ≡ true → Runs x k instr) p.methods m at.0 whole.runs at.1 i r.instr at.2 r.reached))
+  pub runs-at : (m i : ℕ) (method : Method) (instr : Instr) → slice_get p.methods m ≡ Some method → slice_get method.code i ≡ Some instr → instr.reached ≡ true → Runs method i instr
+  runs-at m i method instr found at reached =
+      all-at (λ (x : Method). (k : ℕ) (other : Instr) → slice_get x.code k ≡ Some other → other.reached ≡ true → Runs x k other) p.methods m method whole.runs found i instr at reached
+
+  runs : (m i : ℕ) (r : IsReachedIn p m i) → (method : Method) × (slice_get p.methods m ≡ Some method) × Runs method i r.instr
+  runs m i r = let at = instr-method m i r.instr r.found in (at.0, at.1, runs-at m i at.0 r.instr at.1 at.2 r.reached)
+
+  next-says : (m i j : ℕ) → Leads p m i j → IsReachedIn p m i → IsReachedIn p m j
+  next-says m i j leads r =
+      let at = runs m i r in
+      let same : leads.instr ≡ r.instr = same_Some leads.instr r.instr (sym leads.found ∙ r.found) in
+      let listed : Contains r.instr.next j = subst (λ (x : Instr). Contains x.next j) same leads.listed in
+      goes m at.0 j _ at.1 (All-contains _ r.instr.next j at.2.next listed)
+
+  init-says : (m i n : ℕ) → InitAt p m i n → IsReachedIn p n 0
+  init-says m i n init = by init.instr.op init.listed
+    where
+      of_field : (o : Option Field) → Contains (inits_of_field p o) (record { 0 = n }) → IsReachedIn p n 0
+      of_field None (k, below, e) = absurd (omega (arith, below))
+      of_field (Some field) listed = of_class field.class.0 n listed
+
+      of_method : (o : Option Method) → Contains (inits_of_method p o) (record { 0 = n }) → IsReachedIn p n 0
+      of_method None (k, below, e) = absurd (omega (arith, below))
+      of_method (Some method) listed = of_class method.class.0 n listed
+
+      of_call : (kind : CallKind) (found : Option MethodAt) → Contains (inits_of_call p kind found) (record { 0 = n }) → IsReachedIn p n 0
+      of_call kinds.Static (Some (Program m)) listed = of_method (slice_get p.methods m.0) listed
+      of_call kind found (k, below, e) = absurd (omega (arith, below))
+
+      by : (op : Op) → Contains (inits_of p op) (record { 0 = n }) → IsReachedIn p n 0
+      by (New token) listed = of_class token.0 n listed
+      by (GetStatic field) listed = of_field (slice_get p.fields field.0) listed
+      by (PutStatic field) listed = of_field (slice_get p.fields field.0) listed
+      by (Call call) listed = of_call call.kind call.found listed
+      by op (k, below, e) = absurd (omega (arith, below))
+
+  handler-says : (m i j t : ℕ) → Contains (dest p m i t) (Inside j) → IsReachedIn p m i → IsReachedIn p m j
+  handler-says m i j t inside r =
+      let at = runs m i r in
+      let listed : Contains (dest_among p i t at.0.handlers) (Inside j) = subst (λ (o : Option Method). Contains (dest_among p i t (handlers_of o)) (Inside j)) at.1 inside in
+      let h = dest-handler p i t j at.0.handlers listed in
+      goes m at.0 j 1 at.1 (subst (λ k. IsReachedAt at.0 k 1) h.3 (All-contains (λ (x : Handler). in_range x i ≡ true → IsReachedAt at.0 x.target 1) at.0.handlers h.0 at.2.handlers h.1 h.2))
+
+  -- a call is described as its descriptor says
+  described : (m i height : ℕ) (call : CallOp) → OpAt p m i (Call call) height → IsDescribed p (Call call)
+  described m i height call at =
+      let found = instr-method m i at.instr at.found in
+      subst (IsDescribed p) at.is_op (all-at (λ (x : Instr). IsDescribed p x.op) found.0.code i at.instr (all-at (IsWholeMethod p) p.methods m found.0 whole.methods found.1).calls found.2)
+
+  finds-says : (m i n under : ℕ) (call : CallOp) → CallAt p m i call under → (found : Option MethodAt) → call.found ≡ found → found ≡ Some (Program (record { 0 = n })) → (method : Method) × (slice_get p.methods n ≡ Some method) × HasCode method
+  finds-says m i n under call at found is e =
+      let answer : IsFound p call (Some (Program (record { 0 = n }))) = subst (IsFound p call) (is ∙ e) (described m i at.height call at.at).1 in
+      answers call.name call.desc n answer
+
+  selected-says : (name desc : List ℕ) (n : ℕ) (selections : List Selection) → All (IsWholeSelection p) selections → selection_among name desc selections ≡ Program (record { 0 = n })
+      → (method : Method) × (slice_get p.methods n ≡ Some method) × HasCode method
+  selected-says name desc n [] all e = absurd (cc e)
+  selected-says name desc n (s ∷ selections) all e = by (bytes_eq s.name name && bytes_eq s.desc desc) e
+    where
+      by : (b : Bool) → (if b then s.target else selection_among name desc selections) ≡ Program (record { 0 = n }) → (method : Method) × (slice_get p.methods n ≡ Some method) × HasCode method
+      by true is =
+          let whole_one : IsWholeSelection p s = All-contains (IsWholeSelection p) (s ∷ selections) s all (0, omega arith, refl) in
+          answers s.name s.desc n (subst (IsAnswer p s.name s.desc) is whole_one.answer)
+      by false is = selected-says name desc n selections (λ k x lt. all (suc k) x (omega arith)) is
+
+  dispatch-says : (call : CallOp) (t n : ℕ) (target : MethodAt) → class_sets.Dispatches p call t target → target ≡ Program (record { 0 = n }) → (method : Method) × (slice_get p.methods n ≡ Some method) × HasCode method
+  dispatch-says call t n _ (class_sets.selected is fits) e =
+      selected-says call.name call.desc n is.0.selections (all-at (λ (x : ClassInfo). All (IsWholeSelection p) x.selections) p.classes t is.0 whole.selections is.1)
+      (sym (ap (λ (o : Option ClassInfo). selection_among call.name call.desc (selections_of o)) is.1) ∙ e)
+  dispatch-says call t n _ (class_sets.elsewhere none library) e = absurd (cc e)
+
+  pub says-solution : IsSolution (Rule p) Says
+  says-solution _ _ (class_sets.initialiser_runs {m} r) each = of_class r.entry.class.0 m r.initialises
+  says-solution _ _ (class_sets.constructor_runs {m} entry objects is) each = let c = (constructor-says p entry.class.0 m).0 is in begins m c.method c.found c.constructs.plain.code
+  says-solution _ _ (class_sets.entry_runs entry listed) each = let e = All-contains (IsWholeEntry p) p.entries entry whole.entries listed in begins entry.method.0 e.method e.found e.code
+  says-solution _ _ (class_sets.next_reached {m} {i} {j} leads) each = next-says m i j leads each.0
+  says-solution _ _ (class_sets.initialises {m} {i} {n} init) each = init-says m i n init
+  says-solution _ _ (class_sets.handler_reached {m} {i} {j} {t} inside) each = handler-says m i j t inside each.0
+  says-solution _ _ (class_sets.callee_reached {m} {i} {n}) each = let c = each.1.0 in begins n c.0 c.1 c.2
+  says-solution _ _ (class_sets.found_method {m} {i} {n} {under} {call} method at (class_sets.by_static kind found) is can) each = finds-says m i n under call at _ refl found
+  says-solution _ _ (class_sets.found_method {m} {i} {n} {under} {call} method at (class_sets.by_special kind found) is can) each = finds-says m i n under call at _ refl found
+  says-solution _ _ (class_sets.selects_method {m} {i} {n} {under} {t} {call} at dispatched goes) each = dispatch-says call t n _ goes refl
+  says-solution _ _ rule each = tt
+
+  -- an instruction that class sets reach is one that the kinds reach
+  pub reached-in : (m i : ℕ) → Classes p (Reached m i) → IsReachedIn p m i
+  reached-in m i h = Least-below (Rule p) Says says-solution (Reached m i) h
+
+  -- a method to which a call goes has code
+  pub called-code : (m i n : ℕ) → Classes p (CallsMethod m i n) → (method : Method) × (slice_get p.methods n ≡ Some method) × HasCode method
+  called-code m i n h = Least-below (Rule p) Says says-solution (CallsMethod m i n) h
