@@ -1,7 +1,7 @@
 -- What tables whose items are named by numbers say.
-use Rattle.std.proofs.Common.{◌≡◌, ℕ, zero, suc, ◌+◌, ◌<◌, ◌≤◌, Bool, true, false, List, [], ◌∷◌, ◌++◌, length, map, take, drop, replicate, get_or, refl, ap, sym, ◌∙◌, Some, None, arith}
+use Rattle.std.proofs.Common.{◌≡◌, ℕ, zero, suc, ◌+◌, ◌<◌, ◌≤◌, Bool, true, false, cond, not, List, [], ◌∷◌, ◌++◌, length, map, take, drop, replicate, get_or, refl, ap, sym, ◌∙◌, subst, Some, None, true≢false, arith}
 use Rattle.std.specs.Prelude.{slice_get, if◌then◌else◌}
-use Rattle.std.proofs.lemmas.List.{take-append-le, drop-append-le, length-map, map-append, get_or-map, get_or_past, take_all, length-drop}
+use Rattle.std.proofs.lemmas.List.{take-append-le, drop-append-le, length-append, length-map, map-append, get_or-map, get_or_past, take_all, length-drop}
 use Rattle.std.proofs.Math.Seq.{drop-append_seam}
 use Rattle.std.proofs.lemmas.Option.{slice_get_past, get_or_from_slice_get, slice_get-get_or}
 use Rattle.ja_ir.specs.declared.method.Method.{Method}
@@ -100,6 +100,43 @@ spans-pushed items row spans span h from count =
     ∙ ap (λ (ss : List (List ℕ)). ss ++ in_span (items ++ row) span ∷ []) (spans-grown items row spans h)
     ∙ ap (λ (s : List ℕ). map (in_span items) spans ++ s ∷ []) (in_span-added items row span from count)
 
+-- a number of a row, from where the row lies
+pub flat-at : (items : List ℕ) (spans : List Span) (i k x : ℕ) (span : Span) → span ≡ get_or spans i span → i < length spans → k < span.count → span.from + k < length items
+    → x ≡ get_or items (span.from + k) x → Some x ≡ slice_get (get_or (map (in_span items) spans) i []) k
+flat-at items spans i k x span is lt below inside e =
+    let row : get_or (map (in_span items) spans) i [] ≡ in_span items span = span-row items spans i span lt ∙ ap (in_span items) (sym is) in
+    ap Some e ∙ sym (slice_get-get_or items (span.from + k) x inside) ∙ sym (in_span-at items span k below) ∙ sym (ap (λ (r : List ℕ). slice_get r k) row)
+
+-- a row lies within the items
+pub flat-within : (size : ℕ) (spans : List Span) (i : ℕ) (span : Span) → span ≡ get_or spans i span → AreWithin size spans → i < length spans → span.from + span.count ≤ size
+flat-within size spans i span is inv lt = subst (λ (s : Span). s.from + s.count ≤ size) (sym is) (span-within size spans i span inv lt)
+
+-- a row that is added, or not
+pub flat-invariant : (items row more : List ℕ) (spans now : List Span) (span : Span) (ok : Bool) → AreWithin (length items) spans → more ≡ items ++ row → now ≡ cond ok (spans ++ span ∷ []) spans
+    → span.from ≡ length items → span.count ≡ length row → AreWithin (length more) now
+flat-invariant items row more spans now span ok inv is pushed from count =
+    let both : length (items ++ row) ≡ length items + length row = length-append items row in
+    let size : length more ≡ length (items ++ row) = ap length is in
+    let old : AreWithin (length more) spans = are-within (length items) (length more) spans (omega arith) inv in
+    subst (AreWithin (length more)) (sym pushed) (by ok old)
+  where
+    by : (b : Bool) → AreWithin (length more) spans → AreWithin (length more) (cond b (spans ++ span ∷ []) spans)
+    by true old = are-within_one (length more) spans span old
+        (let both : length (items ++ row) ≡ length items + length row = length-append items row in let size : length more ≡ length (items ++ row) = ap length is in omega arith)
+    by false old = old
+
+pub flat-pushed : (items row more : List ℕ) (spans now : List Span) (span : Span) → AreWithin (length items) spans → more ≡ items ++ row → now ≡ spans ++ span ∷ []
+    → span.from ≡ length items → span.count ≡ length row → map (in_span more) now ≡ map (in_span items) spans ++ row ∷ []
+flat-pushed items row more spans now span inv is pushed from count =
+    ap (λ (ss : List Span). map (in_span more) ss) pushed ∙ ap (λ (its : List ℕ). map (in_span its) (spans ++ span ∷ [])) is ∙ spans-pushed items row spans span inv from count
+
+pub flat-kept : (items row more : List ℕ) (spans now : List Span) → AreWithin (length items) spans → more ≡ items ++ row → now ≡ spans → map (in_span more) now ≡ map (in_span items) spans
+flat-kept items row more spans now inv is same = ap (λ (ss : List Span). map (in_span more) ss) same ∙ ap (λ (its : List ℕ). map (in_span its) spans) is ∙ spans-grown items row spans inv
+
+pub not-false : (b : Bool) → not b ≡ false → b ≡ true
+not-false true h = refl
+not-false false h = absurd (true≢false h)
+
 -- ---- what tables say
 
 absent_past : {A : Type 0} (xs : List A) (z : ℕ) → slice_get xs z ≡ None → length xs ≤ z
@@ -182,6 +219,23 @@ pub empty-calls : {A : Type 0} (none : A) (methods : List Method) → option_row
 empty-calls none methods = map-twice (map (option_named [] none)) zero_calls_of (λ (method : Method). map (λ (instr : Instr). replicate (calls_of instr.op) none) method.code)
     (λ (method : Method). map-twice (option_named [] none) (λ (instr : Instr). calls_of instr.op) (λ (instr : Instr). replicate (calls_of instr.op) none)
     (λ (instr : Instr). few none (calls_of instr.op) (few-calls instr.op)) method.code) methods
+
+pub calls-made : {A : Type 0} (pool : List A) (none other : A) (numbers : List (List ℕ)) (methods : List Method) → pool ≡ [] → none ≡ other → numbers ≡ map zero_calls_of methods
+    → option_rows pool none numbers ≡ map (λ (method : Method). map (λ (instr : Instr). replicate (calls_of instr.op) other) method.code) methods
+calls-made pool none other numbers methods empty same is =
+    ap (λ (ns : List (List ℕ)). option_rows pool none ns) is ∙ ap (λ (pl : List _). option_rows pl none (map zero_calls_of methods)) empty ∙ ap (λ (x : _). option_rows [] x (map zero_calls_of methods)) same ∙ empty-calls other methods
+
+pub slots-made : (n : ℕ) (pool : List (List Bool)) (none : List Bool) (names : List (List (List ℕ))) (methods : List Method) → pool ≡ [] → none ≡ no_members n → names ≡ map zero_slots_of methods
+    → named_table pool none names ≡ map (empty_slots_of n) methods
+slots-made n pool none names methods empty same is =
+    ap (λ (ns : List (List (List ℕ))). named_table pool none ns) is ∙ ap (λ (pl : List (List Bool)). named_table pl none (map zero_slots_of methods)) empty
+    ∙ ap (λ (x : List Bool). named_table [] x (map zero_slots_of methods)) same ∙ empty-slots n methods
+
+pub thrown-made : (n : ℕ) (pool : List (List Bool)) (none : List Bool) (numbers : List (List ℕ)) (methods : List Method) → pool ≡ [] → none ≡ no_members n → numbers ≡ map zero_thrown_of methods
+    → option_rows pool none numbers ≡ map (empty_thrown_of n) methods
+thrown-made n pool none numbers methods empty same is =
+    ap (λ (ns : List (List ℕ)). option_rows pool none ns) is ∙ ap (λ (pl : List (List Bool)). option_rows pl none (map zero_thrown_of methods)) empty
+    ∙ ap (λ (x : List Bool). option_rows [] x (map zero_thrown_of methods)) same ∙ empty-thrown n methods
 
 -- the numbers of methods, of one method more
 pub method_names-more : (m : ℕ) (methods : List Method) (method : Method) → method_names m (methods ++ method ∷ []) ≡ method_names m methods ++ replicate (length method.code) (m + length methods) ∷ []
