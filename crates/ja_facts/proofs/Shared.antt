@@ -1,5 +1,5 @@
 -- What tables whose items are named by numbers say.
-use Rattle.std.proofs.Common.{◌≡◌, ℕ, zero, suc, ◌+◌, ◌<◌, ◌≤◌, Bool, true, false, cond, not, List, [], ◌∷◌, ◌++◌, length, map, take, drop, replicate, get_or, refl, ap, sym, ◌∙◌, subst, Some, None, true≢false, arith}
+use Rattle.std.proofs.Common.{◌≡◌, ℕ, zero, suc, ◌+◌, ◌<◌, ◌≤◌, Bool, true, false, cond, List, [], ◌∷◌, ◌++◌, length, map, take, drop, replicate, get_or, refl, ap, sym, ◌∙◌, subst, Some, None, arith}
 use Rattle.std.specs.Prelude.{slice_get, if◌then◌else◌}
 use Rattle.std.proofs.lemmas.List.{take-append-le, drop-append-le, length-append, length-map, map-append, get_or-map, get_or_past, take_all, length-drop}
 use Rattle.std.proofs.Math.Seq.{drop-append_seam}
@@ -132,10 +132,6 @@ flat-pushed items row more spans now span inv is pushed from count =
 
 pub flat-kept : (items row more : List ℕ) (spans now : List Span) → AreWithin (length items) spans → more ≡ items ++ row → now ≡ spans → map (in_span more) now ≡ map (in_span items) spans
 flat-kept items row more spans now inv is same = ap (λ (ss : List Span). map (in_span more) ss) same ∙ ap (λ (its : List ℕ). map (in_span its) spans) is ∙ spans-grown items row spans inv
-
-pub not-false : (b : Bool) → not b ≡ false → b ≡ true
-not-false true h = refl
-not-false false h = absurd (true≢false h)
 
 -- ---- what tables say
 

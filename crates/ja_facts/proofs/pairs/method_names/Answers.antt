@@ -15,6 +15,6 @@ loop-m-preserved c =
     c.in_ok-push.ensures.ok
     ∙ ap (λ (ns : List (List ℕ)). ns ++ c.in_ok-name_row.field-0 ∷ []) c.loop-m.invariant
     ∙ ap (λ (r : List ℕ). method_names 0 (take c.loop-m.m c.as_slice-methods.result.now) ++ r ∷ [])
-    (c.in_ok-name_row.ensures ∙ ap (λ n. replicate n c.loop-m.m) c.len.ensures ∙ ap (replicate (length c.index-methods-m.result.code)) (sym size))
+    (c.in_ok-name_row.ensures ∙ ap (λ n. replicate n c.loop-m.m) c.len.ensures ∙ ap (λ (x : Method). replicate (length x.code) c.loop-m.m) (sym c.index-methods-m.is) ∙ ap (replicate (length c.index-methods-m.result.code)) (sym size))
     ∙ sym (method_names-more 0 (take c.loop-m.m c.as_slice-methods.result.now) c.index-methods-m.result)
     ∙ sym (ap (method_names 0) more)
