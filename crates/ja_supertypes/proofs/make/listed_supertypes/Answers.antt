@@ -1,4 +1,4 @@
-use Rattle.std.proofs.Common.{◌≡◌, ℕ, ◌<◌, List, [], length, get_or}
+use Rattle.std.proofs.Common.{ℕ, ◌<◌, List, [], length, get_or}
 use Rattle.std.proofs.lemmas.Result.{IfOk-weaker}
 use Rattle.ja_supertypes.specs.Index.{Lists}
 use Rattle.ja_supertypes.specs.Rows.{AreMembers}
