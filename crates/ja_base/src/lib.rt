@@ -2,6 +2,7 @@
 #![tactic(auto)]
 
 mod file;
+pub mod flags;
 mod id;
 mod index;
 mod java_type;

@@ -1,5 +1,6 @@
 -- What a class file says of its class.
 use Rattle.std.specs.Prelude.{ℕ, Bool, false, List, codes, bytes_eq, bit_and, not, Option, Some, None, ◌==◌, ◌&&◌, if◌then◌else◌}
+use Rattle.ja_base.specs.Flags.{acc_static, acc_native, acc_abstract}
 use Rattle.ja_pool.specs.Table.{Table, tag_at, text_at, class_name_at}
 use Rattle.ja_ir.specs.declared.head.HeadField.{HeadField}
 use Rattle.ja_ir.specs.declared.head.HeadMethod.{HeadMethod}
@@ -15,11 +16,11 @@ pub record ClassSpelled : Type 0 where
 
 -- the flag of static fields and methods (tables 4.5-A, 4.6-A)
 abbrev pub is_static : ℕ → Bool
-is_static flags = not (bit_and flags 0x0008 == 0)
+is_static flags = not (bit_and flags acc_static == 0)
 
 -- a method has code, where it is neither abstract nor native (table 4.6-A)
 abbrev pub needs_code : ℕ → Bool
-needs_code flags = bit_and flags 0x0400 == 0 && bit_and flags 0x0100 == 0
+needs_code flags = bit_and flags acc_abstract == 0 && bit_and flags acc_native == 0
 
 -- the constant is a String
 abbrev pub is_string : Table → Option ℕ → Bool

@@ -3,6 +3,7 @@
 use Rattle.std.specs.Prelude.{◌≡◌, ℕ, zero, suc, ◌+◌, ◌-◌, Bool, true, false, ◌&&◌, List, [], ◌∷◌, length, take, drop, Option, Some, None, Result, Ok, Err, nat_lt, nat_le, nat_eq, is_some, not, bytes_eq, bit_and, codes, slice_index_or, slice_set, ◌==◌, if◌then◌else◌}
 use Rattle.std.specs.Int.{Width, w16, w32, byte_len, from_be_bytes}
 use Rattle.std.specs.List.{list_all, starts_with}
+use Rattle.ja_base.specs.Flags.{acc_interface, acc_abstract}
 use Rattle.ja_code.specs.Number.{ldc, aload, aload_0, aload_3, astore, astore_0, astore_3, pop, return, invokestatic}
 use Rattle.ja_class.specs.declared.first.FirstOp.{FirstOp}
 use Rattle.ja_class.specs.declared.first.FirstOp.TheVariants as op
@@ -336,7 +337,7 @@ is_runnable locals stack code =
 unfoldable pub has_numbers : ClassFile → Bool
 has_numbers c =
     nat_le 45 c.major_version && nat_le c.major_version 52
-    && (bit_and c.access_flags 0x0200 == 0) && (bit_and c.access_flags 0x0400 == 0)
+    && (bit_and c.access_flags acc_interface == 0) && (bit_and c.access_flags acc_abstract == 0)
     && nat_lt (length c.method.code.code) 65536
 
 -- the names of a class file, but for that of its class

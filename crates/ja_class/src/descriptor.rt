@@ -9,6 +9,7 @@ ghost use Rattle.ja_class.specs.Member.{HasDescriptor, IsMethodDesc, receiver_wo
 ghost use Rattle.ja_class.specs.ClassFault.{descriptors};
 
 use crate::ClassFault;
+use ja_base::flags::STATIC;
 use ja_base::Memory;
 use ja_bytes::{DescFault, field_desc, method_desc};
 use ja_pool::Pool;
@@ -20,9 +21,6 @@ const FIELD: u8 = 9;
 const METHOD: u8 = 10;
 
 const INTERFACE_METHOD: u8 = 11;
-
-/// The flag of a static method (JVM specification table 4.6-A).
-const STATIC: u16 = 0x0008;
 
 /// Whether a text is the descriptor of a field.
 pub fn is_field_desc(alloc: Global, text: &[u8]) -> Result<bool, Memory>

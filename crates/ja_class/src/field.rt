@@ -12,15 +12,13 @@ use crate::descriptor::is_field_desc;
 use crate::fault::attribute_fault;
 use crate::member::{Front, front_of};
 use crate::number::u2;
+use ja_base::flags::STATIC;
 use ja_attributes::field_attributes;
 use ja_base::{Memory, Name};
 use ja_bytes::Cursor;
 use ja_ir::{HeadField, HeadFields};
 use ja_pool::Pool;
 use std::alloc::Global;
-
-/// The flag of a static field (JVM specification table 4.5-A).
-const STATIC: u16 = 0x0008;
 
 /// The tag of a String (JVM specification table 4.4-A).
 const STRING: u8 = 8;

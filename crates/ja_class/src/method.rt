@@ -13,17 +13,13 @@ use crate::descriptor::is_method_desc;
 use crate::fault::attribute_fault;
 use crate::member::{Front, front_of};
 use crate::number::u2;
+use ja_base::flags::{ABSTRACT, NATIVE};
 use ja_attributes::{MethodCode, method_attributes};
 use ja_base::{Memory, Name};
 use ja_bytes::Cursor;
 use ja_ir::{HeadMethod, HeadMethods};
 use ja_pool::Pool;
 use std::alloc::Global;
-
-/// The flags of methods without code (JVM specification table 4.6-A).
-const ABSTRACT: u16 = 0x0400;
-
-const NATIVE: u16 = 0x0100;
 
 /// A method, without its code and with it.
 #[derive(Drop)]

@@ -1,6 +1,7 @@
 ghost use Rattle.std.specs.Prelude.{◌≡◌};
 ghost use Rattle.ja_ir.specs.Params.{param_count};
 
+use ja_base::flags::STATIC;
 use ja_ir::Method;
 
 /// The number of parameters of a method, a receiver among them (JVM specification 4.3.3).
@@ -8,7 +9,7 @@ pub fn param_count(method: &Method) -> u64
     ensures { result ≡ param_count method.now }
 {
     let types = method.types.params.as_slice().len() as u64;
-    if method.flags & 0x0008 == 0 {
+    if method.flags & u32::from(STATIC) == 0 {
         types + 1
     } else {
         types

@@ -8,6 +8,7 @@ use crate::frame::Frame;
 use crate::pool_kinds::{kind_in, kinds_of_types};
 use crate::stack::joined;
 use crate::state::KindList;
+use ja_base::flags::STATIC;
 use ja_base::{JavaTypes, Kind, Memory};
 use ja_bytes::{DescFault, method_desc};
 use ja_class::ClassMethod;
@@ -31,7 +32,7 @@ fn size_of(instrs: &[RawInstr]) -> u32
 fn is_static(flags: u32) -> bool
     ensures { result ≡ is_static flags }
 {
-    flags & 0x0008 != 0
+    flags & u32::from(STATIC) != 0
 }
 
 /// The kinds of the parameters of a method with these flags.

@@ -6,6 +6,7 @@ ghost use Rattle.ja_class.specs.declared.first.FirstMethod.{FirstMethod};
 ghost use Rattle.ja_class.specs.FirstForm.{IsFirstForm};
 ghost use Rattle.ja_class.specs.Views.{code_view, entries, file_view};
 
+use ja_base::flags::{ABSTRACT, INTERFACE};
 use super::code::code_of;
 use super::constant::Constant;
 use super::frame::is_runnable;
@@ -14,12 +15,6 @@ use super::names::{allows_all, class_name, is_text, text_of};
 use super::{FirstCode, FirstFault, FirstMethod};
 use ja_base::Name;
 use std::alloc::Global;
-
-/// The flag of an interface (JVM specification, table 4.1-B).
-const INTERFACE: u16 = 0x0200;
-
-/// The flag of an abstract class (JVM specification, table 4.1-B).
-const ABSTRACT: u16 = 0x0400;
 
 /// Whether the version, the flags and the code's length are those of the first form.
 #[tactic(auto, unfolding(crate::specs::Reading::has_numbers))]
