@@ -2,5 +2,6 @@ pub mod Refusal
 pub mod Cause
 pub mod Kind
 pub mod Flags
+pub mod Tag
 pub mod Descriptor
 pub mod Index

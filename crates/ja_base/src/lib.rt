@@ -11,6 +11,7 @@ mod memory;
 mod name;
 mod refusal;
 mod seq;
+pub mod tag;
 
 pub use file::{File, Files};
 pub use id::{BlockId, ClassId, FieldId, MethodId, SiteId};

@@ -1,5 +1,6 @@
 -- What a class file says of its class.
 use Rattle.std.specs.Prelude.{ℕ, Bool, false, List, codes, bytes_eq, bit_and, not, Option, Some, None, ◌==◌, ◌&&◌, if◌then◌else◌}
+use Rattle.ja_base.specs.Tag as pool_tag
 use Rattle.ja_base.specs.Flags.{acc_static, acc_native, acc_abstract}
 use Rattle.ja_pool.specs.Table.{Table, tag_at, text_at, class_name_at}
 use Rattle.ja_ir.specs.declared.head.HeadField.{HeadField}
@@ -25,7 +26,7 @@ needs_code flags = bit_and flags acc_abstract == 0 && bit_and flags acc_native =
 -- the constant is a String
 abbrev pub is_string : Table → Option ℕ → Bool
 is_string table None = false
-is_string table (Some index) = tag_at table index == 8
+is_string table (Some index) = tag_at table index == pool_tag.string
 
 -- the constant of a field is the text with which it begins: the field is a static one of type String (4.7.2)
 abbrev pub begins_as_text : Table → (flags : ℕ) → (desc : List ℕ) → (constant : Option ℕ) → Bool

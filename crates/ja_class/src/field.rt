@@ -13,15 +13,13 @@ use crate::fault::attribute_fault;
 use crate::member::{Front, front_of};
 use crate::number::u2;
 use ja_base::flags::STATIC;
+use ja_base::tag::STRING;
 use ja_attributes::field_attributes;
 use ja_base::{Memory, Name};
 use ja_bytes::Cursor;
 use ja_ir::{HeadField, HeadFields};
 use ja_pool::Pool;
 use std::alloc::Global;
-
-/// The tag of a String (JVM specification table 4.4-A).
-const STRING: u8 = 8;
 
 /// The front of a field, whose descriptor is that of a field.
 fn field_front(alloc: Global, c: &mut Cursor<'_>, pool: &Pool) -> Result<Front, ClassFault>

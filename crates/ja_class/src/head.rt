@@ -9,7 +9,8 @@ ghost use Rattle.ja_class.specs.Meaning.{super_said};
 ghost use Rattle.ja_class.specs.ClassFault.{magic, version, this_class, super_class, interface, interfaces, names};
 
 use crate::ClassFault;
-use crate::number::{CLASS, index, u2, u4};
+use crate::number::{index, u2, u4};
+use ja_base::tag::CLASS;
 use ja_base::{Memory, Name, Names};
 use ja_bytes::Cursor;
 use ja_pool::Pool;

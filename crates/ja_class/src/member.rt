@@ -6,7 +6,8 @@ ghost use Rattle.ja_attributes.specs.Part.{Reads};
 ghost use Rattle.ja_class.specs.ClassFault.{front};
 
 use crate::ClassFault;
-use crate::number::{UTF8, index, u2};
+use crate::number::{index, u2};
+use ja_base::tag::UTF8;
 use ja_bytes::Cursor;
 use ja_pool::Pool;
 
