@@ -1,6 +1,7 @@
 pub mod Refusal
 pub mod Cause
 pub mod Kind
+pub mod Limit
 pub mod Flags
 pub mod Tag
 pub mod Descriptor
