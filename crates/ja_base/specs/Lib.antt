@@ -2,7 +2,7 @@ pub mod Refusal
 pub mod Cause
 pub mod Kind
 pub mod Limit
-pub mod Flags
+pub mod AccessFlags
 pub mod Tag
 pub mod Descriptor
 pub mod Index

@@ -2,7 +2,7 @@
 #![tactic(auto)]
 
 mod file;
-pub mod flags;
+pub mod access_flags;
 mod id;
 mod index;
 mod java_type;

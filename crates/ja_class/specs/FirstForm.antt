@@ -2,7 +2,7 @@
 use Rattle.std.specs.Prelude.{◌≡◌, ◌≢◌, ℕ, ◌+◌, ◌^◌, ◌<◌, ◌≤◌, List, [], ◌∷◌, ◌++◌, length, codes, bit_and, nat_eq, Some, false}
 use Rattle.std.specs.List.{flat_map, starts_with}
 use Rattle.std.specs.Int.{w16, w32, to_be_bytes}
-use Rattle.ja_base.specs.Flags.{acc_interface, acc_abstract}
+use Rattle.ja_base.specs.AccessFlags.{acc_interface, acc_abstract}
 use Rattle.ja_class.specs.Pool.{PoolEntry, Utf8, Class, String, Methodref, NameAndType, entry_at, IsClassNamed, IsPool}
 use Rattle.ja_class.specs.Instruction.{Instruction, bytes_of, IsCodeFrom}
 use Rattle.ja_class.specs.Runnable.{IsRunnable}

@@ -1,7 +1,7 @@
 -- What a class file says of its class.
 use Rattle.std.specs.Prelude.{ℕ, Bool, false, List, codes, bytes_eq, bit_and, not, Option, Some, None, ◌==◌, ◌&&◌, if◌then◌else◌}
 use Rattle.ja_base.specs.Tag as pool_tag
-use Rattle.ja_base.specs.Flags.{acc_static, acc_native, acc_abstract}
+use Rattle.ja_base.specs.AccessFlags.{acc_static, acc_native, acc_abstract}
 use Rattle.ja_pool.specs.Table.{Table, tag_at, text_at, class_name_at}
 use Rattle.ja_ir.specs.declared.head.HeadField.{HeadField}
 use Rattle.ja_ir.specs.declared.head.HeadMethod.{HeadMethod}

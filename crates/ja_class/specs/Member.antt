@@ -1,7 +1,7 @@
 -- What the indices of a class file must name, and the descriptors that it must hold (JVM specification 4.1, 4.3, 4.4.2).
 use Rattle.std.specs.Prelude.{◌≡◌, ℕ, ◌+◌, ◌≤◌, Bool, IsTrue, List, [], ◌∷◌, codes, bytes_eq, ◌==◌, ◌&&◌, ◌||◌, if◌then◌else◌, false, Option, bit_and}
 use Rattle.ja_base.specs.Tag as pool_tag
-use Rattle.ja_base.specs.Flags.{acc_static}
+use Rattle.ja_base.specs.AccessFlags.{acc_static}
 use Rattle.ja_base.specs.declared.java_type.JavaType.{JavaType}
 use Rattle.ja_base.specs.Descriptor.{is_one_of, IsMethod, words_of_all}
 use Rattle.ja_bytes.specs.DescriptorText.{IsFieldDesc, IsMethodText}

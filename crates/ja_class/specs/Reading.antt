@@ -4,7 +4,7 @@ use Rattle.std.specs.Prelude.{◌≡◌, ℕ, zero, suc, ◌+◌, ◌-◌, Bool,
 use Rattle.std.specs.Int.{Width, w16, w32, byte_len, from_be_bytes}
 use Rattle.std.specs.List.{list_all, starts_with}
 use Rattle.ja_base.specs.Tag as pool_tag
-use Rattle.ja_base.specs.Flags.{acc_interface, acc_abstract}
+use Rattle.ja_base.specs.AccessFlags.{acc_interface, acc_abstract}
 use Rattle.ja_code.specs.Number.{ldc, aload, aload_0, aload_3, astore, astore_0, astore_3, pop, return, invokestatic}
 use Rattle.ja_class.specs.declared.first.FirstOp.{FirstOp}
 use Rattle.ja_class.specs.declared.first.FirstOp.TheVariants as op

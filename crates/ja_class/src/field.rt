@@ -12,7 +12,7 @@ use crate::descriptor::is_field_desc;
 use crate::fault::attribute_fault;
 use crate::member::{Front, front_of};
 use crate::number::u2;
-use ja_base::flags::STATIC;
+use ja_base::access_flags::STATIC;
 use ja_base::tag::STRING;
 use ja_attributes::field_attributes;
 use ja_base::{Memory, Name};

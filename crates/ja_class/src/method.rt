@@ -13,7 +13,7 @@ use crate::descriptor::is_method_desc;
 use crate::fault::attribute_fault;
 use crate::member::{Front, front_of};
 use crate::number::u2;
-use ja_base::flags::{ABSTRACT, NATIVE};
+use ja_base::access_flags::{ABSTRACT, NATIVE};
 use ja_attributes::{MethodCode, method_attributes};
 use ja_base::{Memory, Name};
 use ja_bytes::Cursor;

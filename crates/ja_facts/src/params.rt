@@ -1,7 +1,7 @@
 ghost use Rattle.std.specs.Prelude.{◌≡◌};
 ghost use Rattle.ja_ir.specs.Params.{param_count};
 
-use ja_base::flags::STATIC;
+use ja_base::access_flags::STATIC;
 use ja_ir::Method;
 
 /// The number of parameters of a method, a receiver among them (JVM specification 4.3.3).

@@ -1,7 +1,7 @@
 ghost use Rattle.std.specs.Prelude.{◌≡◌};
 ghost use Rattle.ja_ir.specs.Lookup as lookup;
 
-use ja_base::flags::{ABSTRACT, INTERFACE, STATIC};
+use ja_base::access_flags::{ABSTRACT, INTERFACE, STATIC};
 
 /// Whether a method belongs to its class and not to an object.
 pub(crate) fn is_static(flags: u32) -> bool

@@ -1,6 +1,6 @@
 -- What a list of program classes may not have.
 use Rattle.std.specs.Prelude.{◌≡◌, ℕ, ◌==◌, ◌&&◌, Bool, true, not, List, [], ◌∷◌, Some, Contains, codes, slice_get, if◌then◌else◌}
-use Rattle.ja_base.specs.Flags.{acc_public, acc_private, acc_protected}
+use Rattle.ja_base.specs.AccessFlags.{acc_public, acc_private, acc_protected}
 use Rattle.std.specs.List.{list_any}
 use Rattle.ja_ir.specs.declared.head.ClassHead.{ClassHead}
 use Rattle.ja_ir.specs.declared.head.HeadMethod.{HeadMethod}

@@ -4,7 +4,7 @@ ghost use Rattle.ja_hier.specs.Faults as faults;
 ghost use Rattle.ja_hier.specs.LookUps as lookups;
 
 use crate::skip::Skip;
-use ja_base::flags::{ABSTRACT, PRIVATE, PROTECTED, PUBLIC, STATIC};
+use ja_base::access_flags::{ABSTRACT, PRIVATE, PROTECTED, PUBLIC, STATIC};
 
 /// Whether the method has no code.
 pub fn is_abstract(flags: u32) -> bool

@@ -1,6 +1,6 @@
 -- Where the things of a program are found, and what their access flags say.
 use Rattle.std.specs.Prelude.{◌≡◌, ℕ, ◌<◌, ◌==◌, ◌&&◌, Bool, false, not, bit_and, bytes_eq, List, [], ◌∷◌, Option, Some, None, Contains, length, slice_get, if◌then◌else◌}
-use Rattle.ja_base.specs.Flags.{acc_static, acc_abstract, acc_interface}
+use Rattle.ja_base.specs.AccessFlags.{acc_static, acc_abstract, acc_interface}
 use Rattle.std.specs.List.{list_any, position_from}
 use Rattle.ja_ir.specs.declared.program.Parts.{Parts}
 use Rattle.ja_ir.specs.declared.class.ClassInfo.{ClassInfo}

@@ -8,7 +8,7 @@ use crate::frame::Frame;
 use crate::pool_kinds::{kind_in, kinds_of_types};
 use crate::stack::joined;
 use crate::state::KindList;
-use ja_base::flags::STATIC;
+use ja_base::access_flags::STATIC;
 use ja_base::{JavaTypes, Kind, Memory};
 use ja_bytes::{DescFault, method_desc};
 use ja_class::ClassMethod;

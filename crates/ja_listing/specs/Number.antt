@@ -1,7 +1,7 @@
 -- Numbers, in decimal digits.
 use Rattle.std.specs.Prelude.{ℕ, ◌+◌, ◌-◌, ◌*◌, Bool, true, false, List, [], ◌∷◌, length, drop, slice_index, Option, Some, None, min, nat_le, nat_lt, ◌==◌, ◌&&◌, bit_and, if◌then◌else◌}
 use Rattle.std.specs.List.{list_all}
-use Rattle.ja_base.specs.Flags.{acc_native, acc_abstract}
+use Rattle.ja_base.specs.AccessFlags.{acc_native, acc_abstract}
 use Rattle.ja_listing.specs.declared.number.Number.{Number}
 
 -- `0` to `9`

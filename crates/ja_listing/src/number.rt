@@ -1,7 +1,7 @@
 ghost use Rattle.std.specs.Prelude.{◌≡◌, min};
 ghost use Rattle.ja_listing.specs.Number.{is_digit, are_digits, decimal, size_of, has_sign, number_of, has_code};
 
-use ja_base::flags::{ABSTRACT, NATIVE};
+use ja_base::access_flags::{ABSTRACT, NATIVE};
 
 /// A number of a listing.
 #[derive(Clone, Copy)]

@@ -1,7 +1,7 @@
 -- What a method of a program class is: its instructions, by what is known before them, and its handlers.
 use Rattle.std.specs.Prelude.{◌≡◌, ℕ, Bool, false, List, [], Option, Some, None, is_some, length, slice_get, slice_index_or}
 use Rattle.ja_base.specs.Descriptor.{AreTypes}
-use Rattle.ja_base.specs.Flags.{acc_native}
+use Rattle.ja_base.specs.AccessFlags.{acc_native}
 use Rattle.ja_pool.specs.Table.{Table}
 use Rattle.ja_code.specs.declared.instr.RawInstr.{RawInstr}
 use Rattle.ja_code.specs.declared.code.Code.{Code}

@@ -14,7 +14,7 @@ use crate::handler::handlers_of;
 use crate::instr::{Scene, instrs_of};
 use crate::law::law_one_method;
 use crate::site::{MethodSites, sites_of};
-use ja_base::flags::NATIVE;
+use ja_base::access_flags::NATIVE;
 use ja_base::{ClassId, Desc, Memory, Name, Seq};
 use ja_class::Class;
 use ja_code::Code;

@@ -2,7 +2,7 @@
 use Rattle.std.specs.Prelude.{◌≡◌, ℕ, true, List, codes, Option, Some, None, slice_get}
 use Rattle.ja_code.specs.declared.behaviour.Invocation.{Invocation}
 use Rattle.ja_code.specs.declared.behaviour.Invocation.TheVariants as invocations
-use Rattle.ja_base.specs.Flags.{acc_super}
+use Rattle.ja_base.specs.AccessFlags.{acc_super}
 use Rattle.ja_ir.specs.declared.head.ClassHead.{ClassHead}
 use Rattle.ja_ir.specs.declared.class.MethodAt.{MethodAt}
 use Rattle.ja_ir.specs.declared.class.MethodAt.TheVariants.{Library}

@@ -1,11 +1,11 @@
 ghost use Rattle.std.specs.Prelude.{◌≡◌, ◌<◌, ◌↔◌, length, IsTrue, Some};
-ghost use Rattle.ja_base.specs.Flags.{acc_super};
+ghost use Rattle.ja_base.specs.AccessFlags.{acc_super};
 ghost use Rattle.ja_ir.specs.Lookup.{has_flag};
 ghost use Rattle.ja_supertypes.specs.LibraryTypes.{IsNearest};
 ghost use Rattle.ja_operations.specs.Targets.{FindsFrom, IsProperSuperclass, GoesAbove, BeginsAt, FindsSpecial, LooksUp, IsFound};
 
 use crate::MemberRef;
-use ja_base::flags::SUPER;
+use ja_base::access_flags::SUPER;
 use ja_base::{ClassId, Name};
 use ja_hier::Hier;
 use ja_ir::{CallKind, MethodAt};

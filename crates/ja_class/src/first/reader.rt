@@ -6,7 +6,7 @@ ghost use Rattle.ja_class.specs.declared.first.FirstMethod.{FirstMethod};
 ghost use Rattle.ja_class.specs.FirstForm.{IsFirstForm};
 ghost use Rattle.ja_class.specs.Views.{code_view, entries, file_view};
 
-use ja_base::flags::{ABSTRACT, INTERFACE};
+use ja_base::access_flags::{ABSTRACT, INTERFACE};
 use super::code::code_of;
 use super::constant::Constant;
 use super::frame::is_runnable;
