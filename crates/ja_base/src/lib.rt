@@ -1,8 +1,8 @@
 //! What every crate of the analyser speaks of: names, lists, ids, types, refusals and limits, and numbers by name.
 #![tactic(auto)]
 
-mod file;
 pub mod access_flags;
+mod file;
 mod id;
 mod index;
 mod java_type;

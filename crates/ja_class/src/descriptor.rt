@@ -9,9 +9,9 @@ ghost use Rattle.ja_class.specs.Member.{HasDescriptor, IsMethodDesc, receiver_wo
 ghost use Rattle.ja_class.specs.ClassFault.{descriptors};
 
 use crate::ClassFault;
+use ja_base::Memory;
 use ja_base::access_flags::STATIC;
 use ja_base::tag::{FIELD, INTERFACE_METHOD, METHOD};
-use ja_base::Memory;
 use ja_bytes::{DescFault, field_desc, method_desc};
 use ja_pool::Pool;
 use std::alloc::Global;

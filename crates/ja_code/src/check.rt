@@ -10,8 +10,8 @@ use crate::form::{Entry, Form};
 use crate::number::RET;
 use crate::opcode::{form_of, is_refused};
 use ja_base::tag::{
-    CLASS, DOUBLE, FIELD, FLOAT, INTEGER, INTERFACE_METHOD, LONG, METHOD, METHOD_HANDLE, METHOD_TYPE,
-    STRING,
+    CLASS, DOUBLE, FIELD, FLOAT, INTEGER, INTERFACE_METHOD, LONG, METHOD, METHOD_HANDLE,
+    METHOD_TYPE, STRING,
 };
 
 /// Whether an entry with this tag is what an index must name.

@@ -5,9 +5,9 @@ ghost use Rattle.std.specs.List.{flat_map};
 ghost use Rattle.ja_pool.specs.Table.{IndexField, is_wanted, pair_fields};
 ghost use Rattle.ja_pool.specs.Slot.{slot_fields, wrong_place};
 
-use ja_base::tag::{CLASS, INVOKE_DYNAMIC, NAME_AND_TYPE, UTF8};
 use crate::look::byte_at;
 use crate::slot::{Form, Slot};
+use ja_base::tag::{CLASS, INVOKE_DYNAMIC, NAME_AND_TYPE, UTF8};
 
 /// Whether an index does not name an entry with the tag that is wanted, or any where none is.
 fn is_wrong_index(tags: &[u8], index: u16, wants: Option<u8>) -> bool

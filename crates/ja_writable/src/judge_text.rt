@@ -7,8 +7,8 @@ ghost use Rattle.ja_assembly.specs.Unwritable.{IsNoText, IsNoMember, HasNoRoom, 
 ghost use Rattle.ja_writable.specs.Judging.{Judges};
 
 use crate::flaw::Flaw;
-use ja_base::access_flags::STATIC;
 use ja_base::Name;
+use ja_base::access_flags::STATIC;
 use ja_bytes::{DescFault, field_desc, method_desc, modified_utf8};
 use ja_code::Form;
 use ja_listing::{MemberName, Number};

@@ -6,7 +6,6 @@ ghost use Rattle.ja_class.specs.declared.first.FirstMethod.{FirstMethod};
 ghost use Rattle.ja_class.specs.FirstForm.{IsFirstForm};
 ghost use Rattle.ja_class.specs.Views.{code_view, entries, file_view};
 
-use ja_base::access_flags::{ABSTRACT, INTERFACE};
 use super::code::code_of;
 use super::constant::Constant;
 use super::frame::is_runnable;
@@ -14,6 +13,7 @@ use super::layout::{ClassFile, CodeAttribute, file_of};
 use super::names::{allows_all, class_name, is_text, text_of};
 use super::{FirstCode, FirstFault, FirstMethod};
 use ja_base::Name;
+use ja_base::access_flags::{ABSTRACT, INTERFACE};
 use std::alloc::Global;
 
 /// Whether the version, the flags and the code's length are those of the first form.
