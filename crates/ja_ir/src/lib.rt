@@ -14,6 +14,7 @@ mod op;
 mod program;
 mod project;
 mod row;
+mod successors;
 
 pub use block::{Block, Blocks, blocks_of};
 pub use class::{
@@ -27,3 +28,4 @@ pub use method::{Catch, Handler, Handlers, Instr, Instrs, Method, Methods};
 pub use op::{CallKind, CallOp, Op, Token};
 pub use program::{Parts, Program};
 pub use row::{LibRow, RowEffect, RowFlow, RowResult};
+pub use successors::Successors;

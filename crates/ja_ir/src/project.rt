@@ -85,7 +85,7 @@ fn instr_in(alloc: Global, instr: &Instr, category: u32) -> Result<Instr, Memory
     ensures { IfOk result (λ copy. copy ≡ categories.instr_in category instr.now) }
 {
     let op = op_in(alloc, &instr.op, category)?;
-    let next = Seq::from_vec(Vec::from_slice(alloc, instr.next.as_slice())?);
+    let next = instr.next.copy(alloc)?;
     Ok(Instr {
         pc: instr.pc,
         op,
@@ -105,7 +105,7 @@ fn op_in(alloc: Global, op: &Op, category: u32) -> Result<Op, Memory>
             Ok(Op::Call(call))
         }
         Op::Shuffle { pops, pushes } => {
-            let pushes = Seq::from_vec(Vec::from_slice(alloc, pushes.as_slice())?);
+            let pushes = Seq::copy_of(alloc, pushes.as_slice())?;
             Ok(Op::Shuffle {
                 pops: *pops,
                 pushes,
@@ -177,8 +177,8 @@ fn row_in(alloc: Global, row: &LibRow, category: u32) -> Result<LibRow, Memory>
 {
     let marks = row.marks.as_slice();
     let flow = flow_for(has_category(marks, category), row.flow);
-    let sinks = Seq::from_vec(Vec::from_slice(alloc, row.sinks.as_slice())?);
-    let marks = Seq::from_vec(Vec::from_slice(alloc, marks)?);
+    let sinks = Seq::copy_of(alloc, row.sinks.as_slice())?;
+    let marks = Seq::copy_of(alloc, marks)?;
     Ok(LibRow {
         flow,
         effect: row.effect,
@@ -220,8 +220,8 @@ fn entry_in(alloc: Global, entry: &Entry, category: u32) -> Result<Entry, Memory
     } else {
         &[]
     };
-    let marked = Seq::from_vec(Vec::from_slice(alloc, positions)?);
-    let marks = Seq::from_vec(Vec::from_slice(alloc, marks)?);
+    let marked = Seq::copy_of(alloc, positions)?;
+    let marks = Seq::copy_of(alloc, marks)?;
     Ok(Entry {
         class: entry.class,
         method: entry.method,
