@@ -22,6 +22,6 @@ pub use limit::{
     MAX_TOTAL_BYTES, MAX_VARIABLES, MAX_WORKERS, MIN_SLOTS,
 };
 pub use memory::Memory;
-pub use name::{Name, Names};
+pub use name::{Name, Names, copy_names};
 pub use refusal::Refusal;
 pub use seq::{Bytes, Flags, Numbers, Seq};

@@ -1,8 +1,9 @@
 -- What a class file says of its class.
-use Rattle.std.specs.Prelude.{ℕ, Bool, false, List, codes, bytes_eq, bit_and, not, Option, Some, None, ◌==◌, ◌&&◌, if◌then◌else◌}
+use Rattle.std.specs.Prelude.{ℕ, Bool, false, List, codes, bytes_eq, bit_and, Option, Some, None, ◌==◌, ◌&&◌, if◌then◌else◌}
 use Rattle.ja_base.specs.Tag as pool_tag
-use Rattle.ja_base.specs.AccessFlags.{acc_static, acc_native, acc_abstract}
+use Rattle.ja_base.specs.AccessFlags.{acc_native, acc_abstract}
 use Rattle.ja_pool.specs.Table.{Table, tag_at, text_at, class_name_at}
+use Rattle.ja_ir.specs.Lookup.{is_static}
 use Rattle.ja_ir.specs.declared.head.HeadField.{HeadField}
 use Rattle.ja_ir.specs.declared.head.HeadMethod.{HeadMethod}
 use Rattle.ja_ir.specs.declared.head.ClassHead.{ClassHead}
@@ -14,10 +15,6 @@ pub record ClassSpelled : Type 0 where
   pub head : ClassHead
   pub pool : Table
   pub methods : List ClassMethod
-
--- the flag of static fields and methods (tables 4.5-A, 4.6-A)
-abbrev pub is_static : ℕ → Bool
-is_static flags = not (bit_and flags acc_static == 0)
 
 -- a method has code, where it is neither abstract nor native (table 4.6-A)
 abbrev pub needs_code : ℕ → Bool

@@ -5,10 +5,9 @@ ghost use Rattle.ja_heads.specs.Entries as specs;
 ghost use Rattle.ja_heads.specs.Entries.{AreEntries, ClassAdds, RowAdds, RowsAdd};
 
 use crate::entering::entering;
-use crate::flags::{is_abstract, is_interface};
 use ja_base::{ClassId, Memory, MethodId, Seq};
 use ja_hier::Hier;
-use ja_ir::{ClassHead, Entries, Entry};
+use ja_ir::{ClassHead, Entries, Entry, is_abstract, is_interface};
 use ja_lib::{EntryRow, Table};
 use std::alloc::Global;
 

@@ -1,17 +1,10 @@
 ghost use Rattle.std.specs.Prelude.{◌≡◌};
-ghost use Rattle.ja_ir.specs.Lookup as lookup;
 ghost use Rattle.ja_hier.specs.Faults as faults;
 ghost use Rattle.ja_hier.specs.LookUps as lookups;
 
 use crate::skip::Skip;
-use ja_base::access_flags::{ABSTRACT, PRIVATE, PROTECTED, PUBLIC, STATIC};
-
-/// Whether the method has no code.
-pub fn is_abstract(flags: u32) -> bool
-    ensures { result ≡ lookup.is_abstract flags }
-{
-    flags & u32::from(ABSTRACT) != 0
-}
+use ja_base::access_flags::{PRIVATE, PROTECTED, PUBLIC, STATIC};
+use ja_ir::is_abstract;
 
 /// Whether the method is neither private nor static.
 pub fn is_virtual(flags: u32) -> bool

@@ -3,19 +3,8 @@ ghost use Rattle.std.specs.Prelude.{◌≡◌, IfOk};
 use crate::{
     ClassInfo, ClassInfos, Field, Fields, Handler, Handlers, Selection, Selections, Site, Sites,
 };
-use ja_base::{Desc, JavaType, JavaTypes, Memory, Name, Names, Seq};
+use ja_base::{Desc, JavaType, JavaTypes, Memory, Seq};
 use std::alloc::Global;
-
-/// The same names.
-pub(crate) fn copy_names(alloc: Global, names: &[Name]) -> Result<Names, Memory>
-    ensures { IfOk result (λ copy. copy ≡ names.now) }
-{
-    let mut copies = Seq::new(alloc);
-    for name in names {
-        copies.push(name.copy(alloc)?)?;
-    }
-    Ok(copies)
-}
 
 /// The same classes.
 pub(crate) fn copy_classes(alloc: Global, classes: &[ClassInfo]) -> Result<ClassInfos, Memory>

@@ -6,6 +6,7 @@ mod block;
 mod class;
 mod copy;
 mod entry;
+mod flags;
 mod head;
 mod initializing;
 mod law;
@@ -22,6 +23,7 @@ pub use class::{
     Selections,
 };
 pub use entry::{Entries, Entry, Site, Sites};
+pub use flags::{is_abstract, is_interface, is_static};
 pub use head::{ClassHead, HeadField, HeadFields, HeadMethod, HeadMethods};
 pub use law::{law_environment_methods, law_sample_is_whole, law_small_program};
 pub use method::{Catch, Handler, Handlers, Instr, Instrs, Method, Methods};

@@ -3,11 +3,10 @@ ghost use Rattle.ja_ir.specs.Categories as categories;
 ghost use Rattle.ja_ir.specs.Categories.{category_count, projected};
 
 use crate::copy::{
-    copy_classes, copy_desc, copy_fields, copy_handlers, copy_names, copy_result, copy_sites,
-    copy_types,
+    copy_classes, copy_desc, copy_fields, copy_handlers, copy_result, copy_sites, copy_types,
 };
 use crate::{CallOp, Entries, Entry, Instr, Instrs, LibRow, Method, Methods, Op, Program, RowFlow};
-use ja_base::{Memory, Seq};
+use ja_base::{Memory, Seq, copy_names};
 use std::alloc::Global;
 
 impl Program {

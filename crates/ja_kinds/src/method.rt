@@ -1,19 +1,17 @@
 ghost use Rattle.std.specs.Prelude.{◌≡◌, ◌<◌, ◌^◌, sum_by, IfOk};
 ghost use Rattle.ja_bytes.specs.DescriptorText.{IsMethodText};
 ghost use Rattle.ja_code.specs.declared.instr.RawInstr.{RawInstr};
-ghost use Rattle.ja_class.specs.Meaning.{is_static};
 ghost use Rattle.ja_kinds.specs.Answer.{code_size, parameter_kinds, IsFrame};
 
 use crate::frame::Frame;
 use crate::pool_kinds::{kind_in, kinds_of_types};
 use crate::stack::joined;
 use crate::state::KindList;
-use ja_base::access_flags::STATIC;
 use ja_base::{JavaTypes, Kind, Memory};
 use ja_bytes::{DescFault, method_desc};
 use ja_class::ClassMethod;
 use ja_code::{Code, RawInstr};
-use ja_ir::HeadMethod;
+use ja_ir::{HeadMethod, is_static};
 use std::alloc::Global;
 
 /// The length of instructions together in bytes.
@@ -26,13 +24,6 @@ fn size_of(instrs: &[RawInstr]) -> u32
         size += instr.length;
     }
     size
-}
-
-/// Whether a method with these flags has no receiver.
-fn is_static(flags: u32) -> bool
-    ensures { result ≡ is_static flags }
-{
-    flags & u32::from(STATIC) != 0
 }
 
 /// The kinds of the parameters of a method with these flags.
