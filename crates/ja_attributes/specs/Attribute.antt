@@ -23,7 +23,7 @@ attribute_bytes a = to_be_bytes w16 a.attribute_name_index ++ (to_be_bytes w32 (
 pub record IsAttribute (table : Table) (a : AttributeInfo) : Type 0 where
   pub index : a.attribute_name_index < 2 ^ 16
   pub size : length a.info < 2 ^ 32
-  pub name : tag_at table a.attribute_name_index ≡ 1
+  pub name : tag_at table a.attribute_name_index ≡ pool_tag.utf8
 
 -- whether the text at an index is this name
 abbrev pub is_named : Table → List ℕ → ℕ → Bool
