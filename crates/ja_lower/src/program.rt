@@ -16,7 +16,7 @@ use crate::LowerFault;
 use crate::law::law_one_program;
 use crate::methods::code_of;
 use crate::refusal::hier_fault;
-use ja_base::{Memory, Name, Names, Seq};
+use ja_base::{Memory, Names, Seq, copy_names};
 use ja_class::Class;
 use ja_heads::{class_infos, entries, fields};
 use ja_hier::{Hier, hierarchy};
@@ -180,15 +180,4 @@ fn heads_of(alloc: Global, classes: &[Class]) -> Result<Seq<ClassHead>, Memory>
         heads.push(head)?;
     }
     Ok(heads)
-}
-
-/// The same names.
-fn copy_names(alloc: Global, names: &[Name]) -> Result<Names, Memory>
-    ensures { IfOk result (λ copy. copy ≡ names.now) }
-{
-    let mut copy = Seq::new(alloc);
-    for name in names {
-        copy.push(name.copy(alloc)?)?;
-    }
-    Ok(copy)
 }

@@ -448,7 +448,7 @@ pub record ProgramsRun : Type 0 where
   pub noted_in_category : has_returned (attempt receiving (one_object 1) (CallEntry 0 (GiveObject 0 ∷ []) 20 [])) ≡ true
   pub noted_in_another : attempt receiving (one_object 2) (CallEntry 0 (GiveObject 0 ∷ []) 20 []) ≡ Refused
   pub noted_in_both : attempt receiving (one_object 3) (CallEntry 0 (GiveObject 0 ∷ []) 20 []) ≡ Refused
-  -- what is made round a noted object is noted in its categories too
+  -- what is made with a noted object in its bag is noted in its categories too
   pub made_round : noted_after (attempt receiving (one_object 1) (Make 0 0 2 ((0 ∷ []) ∷ []) [])) ≡ 1 ∷ 3 ∷ []
   pub object_made : attempt sharing nothing_yet (Make 0 0 1 [] []) ≡ MadeNew (Ref 0) (one_object 1)
   pub null_given : has_returned (attempt sharing nothing_yet (CallEntry 1 (GiveNull ∷ []) 20 [])) ≡ true

@@ -4,6 +4,7 @@ ghost use Rattle.std.specs.Option.{ForSome};
 ghost use Rattle.std.specs.Ordering.{nat_cmp};
 ghost use Rattle.std.specs.Cmp.Lexicographic.{slice_cmp};
 ghost use Rattle.ja_base.specs.Cause.{Rose};
+ghost use Rattle.ja_base.specs.Limit.{max_file_bytes};
 ghost use Rattle.ja_base.specs.declared.file.File.{File};
 ghost use Rattle.ja_io.specs.Contents.{names_of};
 ghost use Rattle.ja_run.specs.Due.{ComesTo, HasFailed, IsAnalysis, IsClassFileName, IsDue, IsVerdictStatus};
@@ -107,7 +108,7 @@ fn analysis(alloc: Global, method: &FirstMethod) -> Result<Answer, Memory>
 /// What one class file comes to, where there is no other file.
 fn judge_class(alloc: Global, name: &Name, bytes: &[u8]) -> Result<Answer, Memory>
     requires { IsClassFileName name.now }
-    ensures judged { IfOk result (λ answer. (file : File) → file.name ≡ name.now → file.bytes ≡ bytes.now → length bytes.now ≤ 4194304 → ComesTo (file ∷ []) answer.status answer.text.items) }
+    ensures judged { IfOk result (λ answer. (file : File) → file.name ≡ name.now → file.bytes ≡ bytes.now → length bytes.now ≤ max_file_bytes → ComesTo (file ∷ []) answer.status answer.text.items) }
     ensures due { IfOk result (λ answer. IsVerdictStatus answer.status) }
 {
     match read_first(alloc, bytes) {

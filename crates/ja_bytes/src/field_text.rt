@@ -2,8 +2,8 @@ ghost use Rattle.std.specs.Prelude.{◌≡◌, IfOk};
 ghost use Rattle.ja_base.specs.Descriptor.{IsField};
 ghost use Rattle.ja_bytes.specs.DescriptorText.{IsFieldDesc, name_of};
 
+use crate::descriptor::{DescFault, field_desc};
 use ja_base::{JavaType, Memory, Name};
-use ja_bytes::{DescFault, field_desc};
 use std::alloc::Global;
 
 /// The name of the type that a descriptor spells: the class between `L` and `;`, and else the whole
@@ -19,7 +19,7 @@ fn name_of(desc: &[u8]) -> &[u8]
 }
 
 /// The type that the descriptor of a field spells.
-pub(crate) fn field_type(alloc: Global, desc: &[u8]) -> Result<JavaType, Memory>
+pub fn field_type(alloc: Global, desc: &[u8]) -> Result<JavaType, Memory>
     requires { IsFieldDesc desc.now }
     ensures { IfOk result (IsField desc.now) }
 {

@@ -32,11 +32,11 @@ module _ (tags dims : List ℕ) (pc : ℕ) where
   one text i (grammar.wide_local wide takes) b = omega arith
   one text i (grammar.wide_increment wide takes) b = omega arith
 
-pub names-place : (tags dims : List ℕ) (pc : ℕ) (bytes : List ℕ) (is : List RawInstr) → AreInstrs tags dims pc bytes is → (i : RawInstr) → IsOneOf i is
+pub names_place : (tags dims : List ℕ) (pc : ℕ) (bytes : List ℕ) (is : List RawInstr) → AreInstrs tags dims pc bytes is → (i : RawInstr) → IsOneOf i is
     → (b : Behaviour) → behaviour_at i.opcode ≡ Some b → branches b ≡ true → 0 < length i.operands
-names-place tags dims pc bytes is grammar.none i there b at on = absurd there
-names-place tags dims pc bytes is (grammar.next text rest {i = first} {is = others} here more) i (inl same) b at on =
+names_place tags dims pc bytes is grammar.none i there b at on = absurd there
+names_place tags dims pc bytes is (grammar.next text rest {i = first} {is = others} here more) i (inl same) b at on =
     let form : is_branch (form_at first.opcode) ≡ true = ap (λ (x : RawInstr). is_branch (form_at x.opcode)) (sym same) ∙ sym (branches_are i.opcode b at) ∙ on in
     subst (λ (x : RawInstr). 0 < length x.operands) (sym same) (one tags dims pc text first here form)
-names-place tags dims pc bytes is (grammar.next text rest {i = first} {is = others} here more) i (inr there) b at on =
-    names-place tags dims (pc + length text) rest others more i there b at on
+names_place tags dims pc bytes is (grammar.next text rest {i = first} {is = others} here more) i (inr there) b at on =
+    names_place tags dims (pc + length text) rest others more i there b at on

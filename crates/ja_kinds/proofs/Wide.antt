@@ -1,5 +1,5 @@
 -- In the kinds of a method each reached instruction finds as many locals as the frame has.
-use Rattle.std.proofs.Common.{◌≡◌, ℕ, zero, suc, ◌+◌, ◌<◌, ◌≤◌, ◌⊎◌, inl, inr, Bool, true, false, cond, eqb, List, [], ◌∷◌, length, take, replicate, refl, sym, ap, subst, ◌∙◌, arith}
+use Rattle.std.proofs.Common.{◌≡◌, ℕ, zero, suc, ◌+◌, ◌<◌, ◌≤◌, ◌⊎◌, inl, inr, Bool, true, false, cond, eqb, List, [], ◌∷◌, length, take, replicate, Option, None, Some, refl, sym, ap, subst, ◌∙◌, arith}
 use Rattle.std.specs.Prelude.{◌++◌}
 use Rattle.std.proofs.lemmas.List.{length-take, length-append, length-replicate}
 use Rattle.std.proofs.lemmas.Bool.{eqb-true}
@@ -11,10 +11,17 @@ use Rattle.ja_kinds.specs.declared.frame.Frame.{Frame}
 use Rattle.ja_kinds.specs.declared.state.KindState.{KindState}
 use Rattle.ja_kinds.specs.declared.state.State.{State}
 use Rattle.ja_kinds.specs.declared.state.State.TheVariants.{Unreached, Known, Clash}
+use Rattle.ja_kinds.specs.Answer.{known_of}
 use Rattle.ja_kinds.specs.Frame.{AreBelow, Below, parameter_words}
 use Rattle.ja_kinds.specs.Solution.{after, thrown, entry_state, IsSolution, IsLeast}
 use Rattle.ja_kinds.specs.Solving.{IsWide}
 use Rattle.ja_kinds.proofs.Monotone.{after_wide, thrown_wide}
+
+-- what is known at a place is known in its state
+pub known_is : (s : State) (f : KindState) → known_of s ≡ Some f → s ≡ Known f
+known_is Unreached f e = absurd (cc)
+known_is (Known g) f e = ap Known (let same : g ≡ f = cc in same)
+known_is Clash f e = absurd (cc)
 
 -- a state, as far as it has so many locals
 abbrev if_wide : (same : Bool) → State → State
@@ -96,6 +103,6 @@ module _ (pool : Table) (code : Code) (frame : Frame) (at : ℕ → State) (leas
   wide-below Clash below = tt
 
   -- what is known before an instruction has as many locals as the frame
-  pub known-wide : (place : ℕ) (f : KindState) → at place ≡ Known f → length f.locals ≡ frame.max_locals
-  known-wide place f known =
+  pub known_wide : (place : ℕ) (f : KindState) → at place ≡ Known f → length f.locals ≡ frame.max_locals
+  known_wide place f known =
       subst (λ (s : State). IsWide frame.max_locals s) known (wide-below (at place) (least.below left left-solves place))

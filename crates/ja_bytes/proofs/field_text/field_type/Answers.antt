@@ -1,7 +1,7 @@
 use Rattle.std.proofs.Common.{List, ℕ, subst, ◌∙◌, sym}
 use Rattle.ja_base.specs.Descriptor.{IsField}
-use Rattle.ja_operations.proofs.FieldTypes.{name_is}
-use Rattle.ja_operations.proofs.field_type.field_type.Goals as goal
+use Rattle.ja_bytes.proofs.FieldTypes.{name_is}
+use Rattle.ja_bytes.proofs.field_text.field_type.Goals as goal
 
 pub returns-in_ok-name-in-Ok : goal.returns-in_ok-name-in-Ok
 returns-in_ok-name-in-Ok c =

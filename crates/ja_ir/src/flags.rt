@@ -1,29 +1,25 @@
 ghost use Rattle.std.specs.Prelude.{◌≡◌};
 ghost use Rattle.ja_ir.specs.Lookup as lookup;
 
-const STATIC: u32 = 0x0008;
+use ja_base::access_flags::{ABSTRACT, INTERFACE, STATIC};
 
-const INTERFACE: u32 = 0x0200;
-
-const ABSTRACT: u32 = 0x0400;
-
-/// Whether a method belongs to its class and not to an object.
-pub(crate) fn is_static(flags: u32) -> bool
+/// Whether a field or a method belongs to its class and not to an object.
+pub fn is_static(flags: u32) -> bool
     ensures { result ≡ lookup.is_static flags }
 {
-    flags & STATIC != 0
+    flags & u32::from(STATIC) != 0
 }
 
 /// Whether a class is an interface.
-pub(crate) fn is_interface(flags: u32) -> bool
+pub fn is_interface(flags: u32) -> bool
     ensures { result ≡ lookup.is_interface flags }
 {
-    flags & INTERFACE != 0
+    flags & u32::from(INTERFACE) != 0
 }
 
 /// Whether a class has no objects of its own, or a method has no code.
-pub(crate) fn is_abstract(flags: u32) -> bool
+pub fn is_abstract(flags: u32) -> bool
     ensures { result ≡ lookup.is_abstract flags }
 {
-    flags & ABSTRACT != 0
+    flags & u32::from(ABSTRACT) != 0
 }
