@@ -1,0 +1,4 @@
+pub mod Locals
+pub mod Checked
+pub mod Kept
+pub mod Renamed

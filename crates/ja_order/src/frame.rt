@@ -1,0 +1,58 @@
+ghost use Rattle.std.specs.Prelude.{◌≡◌, ◌+◌, ◌≤◌};
+ghost use Rattle.ja_ir.specs.Lookup.{is_member};
+ghost use Rattle.ja_ir.specs.Operations.{count_of};
+ghost use Rattle.ja_base.specs.Descriptor.{words_of_all};
+ghost use Rattle.ja_order.specs.Order.{HasFrame};
+
+use ja_base::JavaType;
+use ja_ir::Method;
+
+/// How many locals a method's parameters take, how many locals there are, and how many values on the
+/// stack.
+#[derive(Clone, Copy)]
+pub struct Frame {
+    pub params: usize,
+    pub locals: usize,
+    pub stack: usize,
+}
+
+/// How many words values of these types take.
+fn words_of(types: &[JavaType]) -> u32
+    requires { words_of_all types.now ≤ 512 }
+    ensures { result ≡ words_of_all types.now }
+{
+    types.iter().map(|type_| type_.kind.words()).sum()
+}
+
+/// How many locals a receiver takes.
+fn receiver_words(method: &Method) -> u32
+    ensures { result ≡ count_of (is_member method.now.flags) }
+{
+    if method.flags & 0x0008 == 0 { 1 } else { 0 }
+}
+
+impl Frame {
+    ghost use Rattle.ja_order.specs.Inner.{IsFrameOf, IsSmall};
+
+    /// The frame of a method.
+    pub fn of(method: &Method) -> Frame
+        requires { HasFrame method.now }
+        ensures frame { IsFrameOf method.now result }
+        ensures small { IsSmall result }
+    {
+        let params = words_of(method.types.params.as_slice()) + receiver_words(method);
+        Frame {
+            params: params as usize,
+            locals: method.locals as usize,
+            stack: method.stack as usize,
+        }
+    }
+
+    /// The number of slots.
+    pub fn slots(self) -> usize
+        requires { IsSmall self }
+        ensures { result ≡ self.locals + self.stack + 2 }
+    {
+        self.locals + self.stack + 2
+    }
+}

@@ -1,0 +1,4 @@
+pub mod Asked
+pub mod Digits
+pub mod Given
+pub mod Listed

@@ -1,0 +1,7 @@
+pub mod Clauses
+pub mod Ends
+pub mod Told
+pub mod Orders
+pub mod Frames
+pub mod Work
+pub mod Aim

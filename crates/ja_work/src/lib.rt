@@ -1,0 +1,15 @@
+//! What the ends of instructions say of each slot, as data, and the aim of the analyser's own node
+//! tables: the functions that a program's equations are made of.
+#![tactic(auto)]
+
+mod clause;
+mod frame;
+mod law;
+mod way;
+mod work;
+
+pub use clause::{Clause, Spot};
+pub use frame::{Frame, Frames};
+pub use law::{law_ends, law_frames, law_tests, law_work};
+pub use way::Way;
+pub use work::Work;
