@@ -8,3 +8,4 @@ pub mod Reasons
 pub mod MoreMarks
 pub mod Joint
 pub mod Kept
+mod Shared

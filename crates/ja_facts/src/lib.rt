@@ -5,6 +5,7 @@ mod build;
 mod classes;
 mod effects;
 mod facts;
+mod flat;
 mod graph;
 mod holds;
 mod law;
@@ -16,6 +17,7 @@ mod targets;
 pub use classes::ClassSets;
 pub use effects::Effects;
 pub use facts::{Facts, var_of};
+pub use flat::FlatRows;
 pub use graph::CallGraph;
 pub use holds::Holds;
 pub use law::{
