@@ -20,4 +20,4 @@ pub mod Shared
 pub mod FactLending
 pub mod Told
 pub mod Example
-pub mod Marks
+pub mod MarkedPositions

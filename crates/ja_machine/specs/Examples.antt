@@ -440,7 +440,7 @@ pub record ProgramsRun : Type 0 where
   pub marked_is_not_given : events_of (program_run sharing (Make 0 0 1 [] [] ∷ CallEntry 1 (GiveObject 0 ∷ []) 20 [] ∷ [])) ≡ []
   -- what the environment may not do is refused: a class initialiser where the class has none, a receiver for a static entry, an object that it
   -- has not, a noted object at a position without a mark
-  pub no_initialiser : attempt sharing nothing_yet (Initialize 0 0 20 []) ≡ Refused
+  pub no_initializer : attempt sharing nothing_yet (Initialize 0 0 20 []) ≡ Refused
   pub no_receiver : attempt sharing nothing_yet (Create 0 20 []) ≡ Refused
   pub no_such_object : attempt sharing nothing_yet (CallEntry 1 (GiveObject 0 ∷ []) 20 []) ≡ Refused
   pub noted_object : attempt sharing (one_object 1) (CallEntry 1 (GiveObject 0 ∷ []) 20 []) ≡ Refused

@@ -17,12 +17,12 @@ use Rattle.ja_ir.specs.Params.{param_count}
 use Rattle.ja_ir.specs.Initializing.{InitAt, inits_of, inits_of_class}
 use Rattle.ja_facts.specs.Least.{Each, Least}
 use Rattle.ja_facts.specs.Slots.{Slot, CallAt}
-use Rattle.ja_facts.specs.Actions.{IsInitialiser, IsConstructor, IsEntry}
+use Rattle.ja_facts.specs.Actions.{IsInitializer, IsConstructor, IsEntry}
 use Rattle.ja_facts.specs.Held.{Cell}
 use Rattle.ja_facts.specs.Analyses.{Analyses}
 use Rattle.ja_facts.specs.Formulas.{Assignment, IsNormalEnd, IsExceptionalEnd}
-use Rattle.ja_facts.specs.Equations.{Fact, Context, Rule, MayBegin, MayBeTrue, HoldsStored, Calls, Stores, stores_field, stores_static, stores_reference, stores_word, stores_pair, stored_facts, initialiser_called, constructor_called, entry_called, called, initialised, begins, steps, reads_stored_field, call_resumes, initialiser_resumes, caught, callee_caught, leaves, callee_leaves, method_returns, method_ends, stored, taken}
-use Rattle.ja_facts.specs.Marks.{HasMarked, MarkMore, with_entries}
+use Rattle.ja_facts.specs.Equations.{Fact, Context, Rule, MayBegin, MayBeTrue, HoldsStored, Calls, Stores, stores_field, stores_static, stores_reference, stores_word, stores_pair, stored_facts, initializer_called, constructor_called, entry_called, called, initialized, begins, steps, reads_stored_field, call_resumes, initializer_resumes, caught, callee_caught, leaves, callee_leaves, method_returns, method_ends, stored, taken}
+use Rattle.ja_facts.specs.MarkedPositions.{HasMarked, MarkMorePositions, with_entries}
 use Rattle.ja_facts.proofs.LeastLaws.{Least-is_solution, Least-below}
 use Rattle.ja_facts.proofs.Reasons.{Chosen, choose, all-chosen, each-inside}
 
@@ -75,11 +75,11 @@ module _ (p : Parts) (entries : List Entry) where
     calls x = record { at = call x.at; goes = x.goes; method = x.method; found = x.found; hands = x.hands }
 
     -- an entry that is there with more marks
-    module _ (more : MarkMore p.entries entries) where
-      initialises : {m : ℕ} → IsInitialiser p m → IsInitialiser (with_entries p entries) m
-      initialises {m = m} x =
+    module _ (more : MarkMorePositions p.entries entries) where
+      initializes : {m : ℕ} → IsInitializer p m → IsInitializer (with_entries p entries) m
+      initializes {m = m} x =
           let y : HasMarked entries x.entry = more x.entry x.listed in
-          record { entry = y.other; listed = y.listed; initialises = subst (λ (c : ClassId). Contains (inits_of_class (slice_get p.classes c.0)) (record { 0 = m })) (sym y.class) x.initialises }
+          record { entry = y.other; listed = y.listed; initializes = subst (λ (c : ClassId). Contains (inits_of_class (slice_get p.classes c.0)) (record { 0 = m })) (sym y.class) x.initializes }
 
       is_entry : (entry : Entry) (method : Method) (x : IsEntry p entry method) → IsEntry (with_entries p entries) (more entry x.listed).other method
       is_entry entry method x =
@@ -119,7 +119,7 @@ module _ (p : Parts) (entries : List Entry) where
       by = Least-is_solution (Rule (with_entries p entries) A)
 
       more_solves : (ps : List Fact) (f : Fact) → Rule p A ps f → Each (Least (Rule (with_entries p entries) A)) ps → Least (Rule (with_entries p entries) A) f
-      more_solves ps f (initialiser_called x is) each = by ps f (initialiser_called (initialises x) is) each
+      more_solves ps f (initializer_called x is) each = by ps f (initializer_called (initializes x) is) each
       more_solves ps f (constructor_called {m = m} entry objects cons is) each =
           let y : HasMarked entries entry = more entry objects.is_entry.listed in
           by ps f (constructor_called y.other (record { method = objects.method; is_entry = is_entry entry objects.method objects.is_entry; member = objects.member })
@@ -130,12 +130,12 @@ module _ (p : Parts) (entries : List Entry) where
           subst (λ (n : MethodId). Least (Rule (with_entries p entries) A) (Context n.0 a)) y.method
           (by (stored_facts less.0) (Context y.other.method.0 a) (entry_called y.other less.0 less.1) (each-inside (Least (Rule (with_entries p entries) A)) cells less.0 less.2 each))
       more_solves ps f (called x) each = by ps f (called (calls x)) each
-      more_solves ps f (initialised x is) each = by ps f (initialised (init x) is) each
+      more_solves ps f (initialized x is) each = by ps f (initialized (init x) is) each
       more_solves ps f begins each = by ps f begins each
       more_solves ps f (steps o l n r) each = by ps f (steps (at o) (leads l) (normal n) r) each
       more_solves ps f (reads_stored_field o l n r t h) each = by ps f (reads_stored_field (at o) (leads l) (normal n) r t h) each
       more_solves ps f (call_resumes c l r) each = by ps f (call_resumes (calls c) (leads l) r) each
-      more_solves ps f (initialiser_resumes o x is r) each = by ps f (initialiser_resumes (at o) (init x) is r) each
+      more_solves ps f (initializer_resumes o x is r) each = by ps f (initializer_resumes (at o) (init x) is r) each
       more_solves ps f (caught {m = m} {i = i} {j = j} {t = k} t d e h) each = by ps f (caught t (goes m i k (Inside j) d) (exceptional e) h) each
       more_solves ps f (callee_caught {m = m} {i = i} {j = j} {t = k} c t d e h) each = by ps f (callee_caught (calls c) t (goes m i k (Inside j) d) e h) each
       more_solves ps f (leaves {m = m} {i = i} {t = k} t d e) each = by ps f (leaves t (goes m i k Outside d) (exceptional e)) each

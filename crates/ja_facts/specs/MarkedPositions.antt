@@ -12,8 +12,8 @@ pub record HasMarked (entries : List Entry) (entry : Entry) : Type 0 where
   pub marked : (k : ℕ) → Contains entry.marked k → Contains other.marked k
 
 -- the new list has each entry of the old one, with at least its marked positions
-abbrev pub MarkMore : (old new : List Entry) → Type 0
-MarkMore old new = (entry : Entry) → Contains old entry → HasMarked new entry
+abbrev pub MarkMorePositions : (old new : List Entry) → Type 0
+MarkMorePositions old new = (entry : Entry) → Contains old entry → HasMarked new entry
 
 -- the program with other entries
 abbrev pub with_entries : Parts → List Entry → Parts

@@ -1,6 +1,6 @@
 use Rattle.std.proofs.Common.{refl}
-use Rattle.ja_examples.proofs.Initialised as facts
-use Rattle.ja_examples.proofs.law.law_initialising.Goals as goal
+use Rattle.ja_examples.proofs.Initialized as facts
+use Rattle.ja_examples.proofs.law.law_initializing.Goals as goal
 
 pub returns : goal.returns
 returns c = record {

@@ -28,16 +28,16 @@ plain_main =
     (at 0 (GetStatic (record { 0 = 0 })) (1 ∷ []) 0 ∷ at 1 (Call sink) (2 ∷ []) 1 ∷ at 2 (Return None) [] 0 ∷ []) []
 
 -- a class initialiser of K with this code
-abbrev pub initialiser : (code : List Instr) → Method
-initialiser code = method 1 (codes "<clinit>") 0x0008 0 1 code []
+abbrev pub initializer : (code : List Instr) → Method
+initializer code = method 1 (codes "<clinit>") 0x0008 0 1 code []
 
 -- one that puts a tainted text into A's field
 abbrev pub filling : Method
-filling = initialiser (at 0 (Call source) (1 ∷ []) 0 ∷ at 1 (PutStatic (record { 0 = 0 })) (2 ∷ []) 1 ∷ at 2 (Return None) [] 0 ∷ [])
+filling = initializer (at 0 (Call source) (1 ∷ []) 0 ∷ at 1 (PutStatic (record { 0 = 0 })) (2 ∷ []) 1 ∷ at 2 (Return None) [] 0 ∷ [])
 
 -- one that throws
 abbrev pub throwing_up : Method
-throwing_up = initialiser (at 0 (Const R) (1 ∷ []) 0 ∷ at 1 Throw [] 1 ∷ [])
+throwing_up = initializer (at 0 (Const R) (1 ∷ []) 0 ∷ at 1 Throw [] 1 ∷ [])
 
 -- A, which has no class initialiser
 abbrev pub class_a : ClassInfo
@@ -74,8 +74,8 @@ program_of main i clinit = record {
 }
 
 -- the three programs
-abbrev pub initialising : Parts
-initialising = program_of naming_main 3 filling
+abbrev pub initializing : Parts
+initializing = program_of naming_main 3 filling
 
 abbrev pub resting : Parts
 resting = program_of plain_main 1 filling
