@@ -4,7 +4,8 @@ ghost use Rattle.ja_ir.specs.Blocks.{StaysInside};
 
 use ja_base::{ClassId, Desc, Kind, Memory, Name, Seq};
 use ja_ir::{
-    CallKind, CallOp, Instr, Instrs, LibRow, Method, Op, RowEffect, RowFlow, RowResult, blocks_of,
+    CallKind, CallOp, Instr, Instrs, LibRow, Method, Op, RowEffect, RowFlow, RowResult, Successors,
+    blocks_of,
 };
 use std::alloc::Global;
 
@@ -36,7 +37,7 @@ fn add(code: &mut Instrs, alloc: Global, pc: u32, op: Op, next: &[u64]) -> Resul
     ensures inside { OnOk result (All (λ instr. All (λ j. j < 8) instr.next) code.new) }
     ensures size { OnOk result (length code.new ≡ length code.old + 1) }
 {
-    let next = Seq::from_vec(Vec::from_slice(alloc, next)?);
+    let next = Successors::of(alloc, next)?;
     code.push(Instr {
         pc,
         op,

@@ -3,8 +3,9 @@ ghost use Rattle.std.specs.Prelude.{◌≡◌};
 ghost use Rattle.ja_ir.specs.Sample.{sample};
 
 use crate::sample::{CONSTRUCTOR, MAIN, MEMBER, WITHOUT_CODE};
+use crate::tables::set_of;
 use ja_base::{FieldId, Memory};
-use ja_facts::ClassSets;
+use ja_facts::{ClassSets, FlatRows, Rows};
 use ja_ir::{Program, Token};
 use std::alloc::Global;
 
@@ -36,14 +37,33 @@ fn add_least(out: &mut String, sets: &ClassSets) -> Result<(), Memory> {
     Ok(writeln!(out, "class sets {code:?} {methods:?} {field:?} {bag:?}")?)
 }
 
-/// Adds what the class sets tell at first, and after writes of what is in a slot and what is thrown.
+/// Names a set for slot 0 before instruction 1 of the main method, and one for what instruction 3 throws.
+fn share_two(alloc: Global, sets: &mut ClassSets) -> Result<(), Memory> {
+    let mut pool = Rows::new(alloc);
+    pool.push(set_of(alloc, 5, 4)?)?;
+    pool.push(set_of(alloc, 5, 2)?)?;
+    let mut rows = FlatRows::new(alloc);
+    rows.push(&[])?;
+    rows.push(&[0])?;
+    let mut slots = Rows::new(alloc);
+    slots.push(rows)?;
+    let mut numbers = Rows::new(alloc);
+    for number in [0u32, 0, 0, 2] {
+        numbers.push(number)?;
+    }
+    let mut thrown = Rows::new(alloc);
+    thrown.push(numbers)?;
+    sets.share(slots, thrown, pool);
+    Ok(())
+}
+
+/// Adds what the class sets tell at first, and after a slot and what is thrown are named a set.
 pub fn add_code(out: &mut String, alloc: Global, program: &Program) -> Result<(), Memory>
     requires { program.now ≡ sample }
 {
     let mut sets = ClassSets::new(alloc, program)?;
     add_least(out, &sets)?;
-    sets.slot_mut(MAIN, 1, 0).add(4);
-    sets.thrown_mut(MAIN, 3).add(2);
+    share_two(alloc, &mut sets)?;
     add_least(out, &sets)
 }
 

@@ -50,9 +50,9 @@ fn add_heaps(out: &mut String, alloc: Global, program: &Program) -> Result<(), M
     requires { program.now ≡ sample }
 {
     tables::add_effects(out, alloc, program)?;
-    tables::add_pairs(out, alloc, program)?;
-    tables::add_small_pairs(out, alloc, program)?;
-    tables::add_reach(out, alloc, program)?;
+    tables::add_first_pairs(out, alloc, program)?;
+    tables::add_pairs(out, alloc)?;
+    tables::add_reach(out, alloc)?;
     tables::add_held(out, alloc, program)?;
     tables::add_field_held(out, alloc, program)
 }

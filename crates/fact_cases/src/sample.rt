@@ -8,7 +8,7 @@ use ja_base::{ClassId, Desc, Flags, JavaType, Kind, Memory, MethodId, Name, Seq}
 use ja_ir::{
     CallKind, CallOp, Catch, ClassInfo, ClassInfos, Entries, Entry, Field, Fields, Handler,
     Handlers, Instr, Instrs, LibRow, Method, MethodAt, Methods, Op, Program, RowEffect, RowFlow,
-    RowResult, Selection, Selections, Site, Sites, law_sample_is_whole,
+    RowResult, Selection, Selections, Site, Sites, Successors, law_sample_is_whole,
 };
 use std::alloc::Global;
 
@@ -28,7 +28,7 @@ pub const WITHOUT_CODE: MethodId = MethodId(3);
 fn instr(alloc: Global, pc: u32, op: Op, next: &[u64], height: u32) -> Result<Instr, Memory>
     ensures { IfOk result (λ x. x ≡ at pc op next.now height) }
 {
-    let next = Seq::from_vec(Vec::from_slice(alloc, next)?);
+    let next = Successors::of(alloc, next)?;
     Ok(Instr {
         pc,
         op,

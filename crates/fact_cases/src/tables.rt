@@ -7,8 +7,9 @@ ghost use Rattle.ja_ir.specs.Sample.{sample};
 
 use crate::sample::{CONSTRUCTOR, MAIN, MEMBER, WITHOUT_CODE};
 use ja_base::{FieldId, Memory, MethodId};
-use ja_facts::{CallGraph, Effects, Holds, Pairs, Reach, Rows, var_of};
+use ja_facts::{CallGraph, Effects, Holds, Pairs, Reach, Rows, Targets, var_of};
 use ja_ir::{Program, Token};
+use ja_sets::{PairSet, TokenSet};
 use std::alloc::Global;
 
 /// No method of the program.
@@ -68,11 +69,36 @@ pub fn add_calls(out: &mut String, alloc: Global, program: &Program) -> Result<(
     let mut graph = CallGraph::new(alloc, program)?;
     graph.add(MAIN, 1);
     graph.add(MEMBER, 0);
-    let targets = graph.targets_mut(MAIN, 1);
+    let mut targets = Targets::new(alloc);
     targets.methods.push(2)?;
     targets.library = true;
-    graph.takers_mut(MAIN, 1).add(4);
+    let mut target_pool = Rows::new(alloc);
+    target_pool.push(targets)?;
+    graph.share_targets(rows_of(alloc, &[0, 1])?, target_pool);
+    let mut taker_pool = Rows::new(alloc);
+    taker_pool.push(set_of(alloc, 5, 4)?)?;
+    graph.share_takers(rows_of(alloc, &[0, 1])?, taker_pool);
     add_said(out, &graph)
+}
+
+/// The set of one number below a bound above 4.
+pub fn set_of(alloc: Global, n: u32, member: u32) -> Result<TokenSet, Memory>
+    requires { member < n }
+{
+    let mut set = TokenSet::new(alloc, n)?;
+    set.add(member);
+    Ok(set)
+}
+
+/// Rows whose first, the one row, has these numbers.
+fn rows_of(alloc: Global, numbers: &[u32]) -> Result<Rows<Rows<u32>>, Memory> {
+    let mut row = Rows::new(alloc);
+    for number in numbers {
+        row.push(*number)?;
+    }
+    let mut rows = Rows::new(alloc);
+    rows.push(row)?;
+    Ok(rows)
 }
 
 /// Adds what the graph says of some instructions.
@@ -123,35 +149,47 @@ fn add_had(out: &mut String, effects: &Effects) -> Result<(), Memory> {
     Ok(())
 }
 
-/// Adds which heap pairs there are after a write to a method of some instructions.
-pub fn add_pairs(out: &mut String, alloc: Global, program: &Program) -> Result<(), Memory>
+/// Adds which heap pairs there are at first, before an instruction of the program.
+pub fn add_first_pairs(out: &mut String, alloc: Global, program: &Program) -> Result<(), Memory>
     requires { program.now ≡ sample }
 {
-    let mut pairs = Pairs::new(alloc, program)?;
-    let added = pairs.at_mut(MAIN, 3).add((4, 0));
-    let held = pairs.at(MAIN, 3).contains((4, 0));
-    let turned = pairs.at(MAIN, 3).contains((0, 4));
-    let before = pairs.at(MAIN, 2).contains((4, 0));
+    let pairs = Pairs::new(alloc, program)?;
+    let held = pairs.at(MEMBER, 0).contains((5, 5));
+    let reach = Reach::new(alloc, program)?;
+    let reached = reach.at(MAIN, 1).contains((3, 2));
+    Ok(writeln!(out, "pairs at first {held}, reach {reached}")?)
+}
+
+/// Adds which heap pairs there are before two instructions, of which the second is named a pair.
+pub fn add_pairs(out: &mut String, alloc: Global) -> Result<(), Memory> {
+    let mut set = PairSet::new(alloc, 6)?;
+    let added = set.add((4, 0));
+    let mut pool = Rows::new(alloc);
+    pool.push(set)?;
+    let mut row = Rows::new(alloc);
+    row.push(7u32)?;
+    row.push(0)?;
+    let mut names = Rows::new(alloc);
+    names.push(row)?;
+    let pairs = Pairs::shared(names, pool, PairSet::new(alloc, 6)?);
+    let held = pairs.at(MAIN, 1).contains((4, 0));
+    let turned = pairs.at(MAIN, 1).contains((0, 4));
+    let before = pairs.at(MAIN, 0).contains((4, 0));
     Ok(writeln!(out, "pairs added {added}: {held} {turned} {before}")?)
 }
 
-/// Adds which heap pairs there are after a write to a method of one instruction.
-pub fn add_small_pairs(out: &mut String, alloc: Global, program: &Program) -> Result<(), Memory>
-    requires { program.now ≡ sample }
-{
-    let mut pairs = Pairs::new(alloc, program)?;
-    let added = pairs.at_mut(MEMBER, 0).add((5, 5));
-    let held = pairs.at(MEMBER, 0).contains((5, 5));
-    let other = pairs.at(CONSTRUCTOR, 0).contains((5, 5));
-    Ok(writeln!(out, "pairs added {added}: {held} {other}")?)
-}
-
-/// Adds which reachable pairs there are after a write.
-pub fn add_reach(out: &mut String, alloc: Global, program: &Program) -> Result<(), Memory>
-    requires { program.now ≡ sample }
-{
-    let mut reach = Reach::new(alloc, program)?;
-    let added = reach.at_mut(MAIN, 0).add((3, 2));
+/// Adds which reachable pairs there are before two instructions, of which the first is named a pair.
+pub fn add_reach(out: &mut String, alloc: Global) -> Result<(), Memory> {
+    let mut set = PairSet::new(alloc, 6)?;
+    let added = set.add((3, 2));
+    let mut pool = Rows::new(alloc);
+    pool.push(set)?;
+    let mut row = Rows::new(alloc);
+    row.push(0u32)?;
+    row.push(1)?;
+    let mut names = Rows::new(alloc);
+    names.push(row)?;
+    let reach = Reach::shared(names, pool, PairSet::new(alloc, 6)?);
     let held = reach.at(MAIN, 0).contains((3, 2));
     let turned = reach.at(MAIN, 0).contains((2, 3));
     let after = reach.at(MAIN, 1).contains((3, 2));

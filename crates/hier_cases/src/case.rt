@@ -10,19 +10,10 @@ use std::alloc::{AllocError, Global};
 /// The title of a case and what comes of it, as lines.
 pub fn case_text(alloc: Global, case: &str) -> Result<String, Memory> {
     let lines = lines_of(alloc, case)?;
-    let [title, lines @ ..] = lines.as_slice() else {
-        return Ok(String::new(alloc));
-    };
-    let mut out = format!(in alloc; "{title}\n")?;
-    let heads = heads_of(alloc, lines)?;
-    match hierarchy_of(alloc, heads.as_slice()) {
-        Ok(hier) => {
-            writeln!(out, "classes {}", hier.heads().len())?;
-            add_answers(&mut out, alloc, &hier, lines)?;
-        }
-        Err(fault) => add_fault(&mut out, fault)?,
+    match lines.as_slice() {
+        [title, lines @ ..] => titled(alloc, title, lines),
+        [] => Ok(String::new(alloc)),
     }
-    Ok(out)
 }
 
 /// The lines of a case that are neither empty nor begin with `#`.
@@ -34,6 +25,22 @@ fn lines_of<'a>(alloc: Global, case: &'a str) -> Result<Vec<&'a str>, AllocError
         }
     }
     Ok(lines)
+}
+
+/// The title of a case and what comes of its other lines.
+fn titled(alloc: Global, title: &str, lines: &[&str]) -> Result<String, Memory> {
+    let mut out = format!(in alloc; "{title}\n")?;
+    add_case(&mut out, alloc, lines)?;
+    Ok(out)
+}
+
+/// Adds what comes of the lines of a case.
+fn add_case(out: &mut String, alloc: Global, lines: &[&str]) -> Result<(), Memory> {
+    let heads = heads_of(alloc, lines)?;
+    match hierarchy_of(alloc, heads.as_slice()) {
+        Ok(hier) => add_answers(out, alloc, &hier, lines),
+        Err(fault) => Ok(add_fault(out, fault)?),
+    }
 }
 
 /// The hierarchy of the classes. Where they are too many for one, the answer is want of memory.
@@ -53,19 +60,38 @@ fn add_fault(out: &mut String, fault: HierFault) -> Result<(), AllocError> {
         HierFault::CrossPackage { class, method } => {
             writeln!(out, "cross package class {class} method {method}")
         }
-        HierFault::Memory => writeln!(out, "out of memory"),
+        HierFault::Memory => out.push_str("out of memory\n"),
     }
 }
 
-/// Adds the lines `? ..` with their answers.
+/// Adds how many classes there are, and the lines `? ..` with their answers.
 fn add_answers(out: &mut String, alloc: Global, hier: &Hier, lines: &[&str]) -> Result<(), Memory> {
+    writeln!(out, "classes {}", hier.heads().len())?;
     for line in lines {
-        if let Some(question) = line.strip_prefix("? ") {
-            write!(out, "{question}:")?;
-            let words = words_of(alloc, question)?;
-            add_answer(out, alloc, hier, words.as_slice())?;
-            writeln!(out)?;
-        }
+        add_line(out, alloc, hier, line)?;
     }
+    Ok(())
+}
+
+/// Adds a line with its answer, if it is a question.
+fn add_line(out: &mut String, alloc: Global, hier: &Hier, line: &str) -> Result<(), Memory> {
+    match line.strip_prefix("? ") {
+        Some(question) => add_question(out, alloc, hier, question),
+        None => Ok(()),
+    }
+}
+
+/// Adds a question with its answer, as a line.
+fn add_question(
+    out: &mut String,
+    alloc: Global,
+    hier: &Hier,
+    question: &str,
+) -> Result<(), Memory> {
+    out.push_str(question)?;
+    out.push(':')?;
+    let words = words_of(alloc, question)?;
+    add_answer(out, alloc, hier, words.as_slice())?;
+    out.push('\n')?;
     Ok(())
 }

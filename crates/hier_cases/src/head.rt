@@ -1,5 +1,5 @@
 //! The classes that lines spell.
-use crate::words::{hexadecimal, number, words_of};
+use crate::words::{hexadecimal, number, numbered, word, words_of};
 use ja_base::{Memory, Name, Names, Seq};
 use ja_ir::{ClassHead, HeadField, HeadFields, HeadMethod, HeadMethods};
 use std::alloc::Global;
@@ -37,11 +37,16 @@ fn add_class(
     words: &[&str],
     members: &[&str],
 ) -> Result<(), Memory> {
-    let name = Name::of(alloc, word(words, 1).as_bytes())?;
     let superclass = superclass(alloc, word(words, 2))?;
-    let interfaces = names_of(alloc, words.get(3..).unwrap_or(&[]))?;
-    heads.push(head(alloc, name, superclass, interfaces, members)?)?;
-    Ok(())
+    let interfaces = words.get(3..).unwrap_or(&[]);
+    add_head(
+        heads,
+        alloc,
+        word(words, 1),
+        superclass,
+        interfaces,
+        members,
+    )
 }
 
 /// Adds the classes of a line `classes PREFIX FIRST LAST INTERFACE..`.
@@ -51,22 +56,40 @@ fn add_row(
     words: &[&str],
     members: &[&str],
 ) -> Result<(), Memory> {
-    let prefix = word(words, 1);
+    let interfaces = words.get(4..).unwrap_or(&[]);
     for class in number(word(words, 2))..=number(word(words, 3)) {
-        let name = numbered(alloc, prefix, class)?;
-        let superclass = match class.checked_sub(1) {
-            Some(above) => numbered(alloc, prefix, above)?,
-            None => Name::of(alloc, b"java/lang/Object")?,
-        };
-        let interfaces = names_of(alloc, words.get(4..).unwrap_or(&[]))?;
-        heads.push(head(alloc, name, Some(superclass), interfaces, members)?)?;
+        add_numbered(heads, alloc, word(words, 1), class, interfaces, members)?;
     }
     Ok(())
 }
 
-/// The word at a place, or else no letter.
-fn word<'a>(words: &[&'a str], place: usize) -> &'a str {
-    words.get(place).copied().unwrap_or("")
+/// Adds the class of a number in a row.
+fn add_numbered(
+    heads: &mut Vec<ClassHead>,
+    alloc: Global,
+    prefix: &str,
+    class: u32,
+    interfaces: &[&str],
+    members: &[&str],
+) -> Result<(), Memory> {
+    let name = numbered(alloc, prefix, class)?;
+    let superclass = above(alloc, prefix, class)?;
+    add_head(
+        heads,
+        alloc,
+        name.as_str(),
+        Some(superclass),
+        interfaces,
+        members,
+    )
+}
+
+/// The name of the superclass of the class of a number in a row.
+fn above(alloc: Global, prefix: &str, class: u32) -> Result<Name, Memory> {
+    match class.checked_sub(1) {
+        Some(above) => Name::of(alloc, numbered(alloc, prefix, above)?.as_bytes()),
+        None => Name::of(alloc, b"java/lang/Object"),
+    }
 }
 
 /// The name of a superclass, or none where the word is `-`.
@@ -75,12 +98,6 @@ fn superclass(alloc: Global, word: &str) -> Result<Option<Name>, Memory> {
         return Ok(None);
     }
     Ok(Some(Name::of(alloc, word.as_bytes())?))
-}
-
-/// A prefix and a number, as one name.
-fn numbered(alloc: Global, prefix: &str, number: u32) -> Result<Name, Memory> {
-    let text = format!(in alloc; "{prefix}{number}")?;
-    Name::of(alloc, text.as_bytes())
 }
 
 /// The names that words spell.
@@ -92,65 +109,99 @@ fn names_of(alloc: Global, words: &[&str]) -> Result<Names, Memory> {
     Ok(names)
 }
 
+/// Adds a public class with the members that the lines begin with.
+fn add_head(
+    heads: &mut Vec<ClassHead>,
+    alloc: Global,
+    name: &str,
+    superclass: Option<Name>,
+    interfaces: &[&str],
+    lines: &[&str],
+) -> Result<(), Memory> {
+    heads.push(head(alloc, name, superclass, interfaces, lines)?)?;
+    Ok(())
+}
+
 /// A public class with the members that the lines begin with.
 fn head(
     alloc: Global,
-    name: Name,
+    name: &str,
     superclass: Option<Name>,
-    interfaces: Names,
+    interfaces: &[&str],
     lines: &[&str],
 ) -> Result<ClassHead, Memory> {
-    let mut fields = Seq::new(alloc);
-    let mut methods = Seq::new(alloc);
-    for line in lines {
-        if !add_member(&mut fields, &mut methods, alloc, line)? {
-            break;
-        }
-    }
+    let name = Name::of(alloc, name.as_bytes())?;
+    let interfaces = names_of(alloc, interfaces)?;
+    let members = members_of(alloc, lines)?;
     Ok(ClassHead {
         name,
         superclass,
         interfaces,
         flags: 0x0001,
-        fields,
-        methods,
+        fields: members.fields,
+        methods: members.methods,
     })
 }
 
+/// The members of a class.
+#[derive(Drop)]
+struct Members {
+    fields: HeadFields,
+    methods: HeadMethods,
+}
+
+/// The members that the lines begin with.
+fn members_of(alloc: Global, lines: &[&str]) -> Result<Members, Memory> {
+    let mut members = Members {
+        fields: Seq::new(alloc),
+        methods: Seq::new(alloc),
+    };
+    for line in lines {
+        if !add_member(&mut members, alloc, line)? {
+            break;
+        }
+    }
+    Ok(members)
+}
+
 /// Adds the member of a line `field NAME` or `method NAME FLAGS`, and answers whether there is one.
-fn add_member(
-    fields: &mut HeadFields,
-    methods: &mut HeadMethods,
-    alloc: Global,
-    line: &str,
-) -> Result<bool, Memory> {
+fn add_member(members: &mut Members, alloc: Global, line: &str) -> Result<bool, Memory> {
     let words = words_of(alloc, line)?;
     let words = words.as_slice();
     match words.first().copied() {
-        Some("field") => fields.push(field(alloc, word(words, 1))?)?,
-        Some("method") => {
-            methods.push(method(alloc, word(words, 1), hexadecimal(word(words, 2)))?)?;
-        }
-        _ => return Ok(false),
+        Some("field") => add_field(&mut members.fields, alloc, word(words, 1)),
+        Some("method") => add_method(
+            &mut members.methods,
+            alloc,
+            word(words, 1),
+            hexadecimal(word(words, 2)),
+        ),
+        _ => Ok(false),
     }
-    Ok(true)
 }
 
-/// A public field of type `int`.
-fn field(alloc: Global, name: &str) -> Result<HeadField, Memory> {
-    Ok(HeadField {
+/// Adds a public field of type `int`.
+fn add_field(fields: &mut HeadFields, alloc: Global, name: &str) -> Result<bool, Memory> {
+    fields.push(HeadField {
         name: Name::of(alloc, name.as_bytes())?,
         desc: Name::of(alloc, b"I")?,
         flags: 0x0001,
         text: false,
-    })
+    })?;
+    Ok(true)
 }
 
-/// A method without parameters and result.
-fn method(alloc: Global, name: &str, flags: u32) -> Result<HeadMethod, Memory> {
-    Ok(HeadMethod {
+/// Adds a method without parameters and result.
+fn add_method(
+    methods: &mut HeadMethods,
+    alloc: Global,
+    name: &str,
+    flags: u32,
+) -> Result<bool, Memory> {
+    methods.push(HeadMethod {
         name: Name::of(alloc, name.as_bytes())?,
         desc: Name::of(alloc, b"()V")?,
         flags,
-    })
+    })?;
+    Ok(true)
 }

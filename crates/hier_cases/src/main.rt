@@ -5,6 +5,7 @@
 #![tactic(auto)]
 
 mod answer;
+mod asked;
 mod case;
 mod head;
 mod range;

@@ -12,7 +12,8 @@ use Rattle.ja_attributes.specs.declared.code.MethodCode.{MethodCode}
 use Rattle.ja_ir.specs.declared.head.HeadField.{HeadField}
 use Rattle.ja_ir.specs.declared.head.HeadMethod.{HeadMethod}
 use Rattle.ja_class.specs.declared.class.ClassMethod.{ClassMethod}
-use Rattle.ja_class.specs.Meaning.{ClassSpelled, is_static, needs_code, code_said}
+use Rattle.ja_ir.specs.Lookup.{is_static}
+use Rattle.ja_class.specs.Meaning.{ClassSpelled, needs_code, code_said}
 use Rattle.ja_class.specs.ClassFile.{MemberInfo, ClassFile, pool_of, AreAttributes, IsFieldInfo, IsMethodInfo, AreFields, AreMethods, Says, IsClass}
 use Rattle.ja_listing.specs.declared.item.Frame.{Frame}
 use Rattle.ja_listing.specs.Number.{has_code}

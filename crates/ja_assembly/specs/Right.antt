@@ -2,6 +2,7 @@
 -- walk over the items, the pool, the code and the whole class file. A reader of the public contracts need not look here.
 use Rattle.std.specs.Prelude.{◌≡◌, ℕ, ◌+◌, ◌<◌, ◌≤◌, ◌^◌, Bool, true, false, List, [], ◌∷◌, length, slice_get, slice_index, codes, Option, Some, None, ◌⊎◌}
 use Rattle.std.specs.List.{AllByRecursion}
+use Rattle.ja_base.specs.Tag as pool_tag
 use Rattle.ja_bytes.specs.DescriptorText.{IsFieldDesc, IsMethodText}
 use Rattle.ja_code.specs.Opcode.{form_at, is_refused}
 use Rattle.ja_pool.specs.Table.{Table, tag_at, text_at, dims_of, brackets_of}
@@ -29,7 +30,7 @@ AreIn xs all = AllByRecursion (λ x. IsIn x all) xs
 
 -- the descriptor that goes with the tag of a member
 abbrev pub IsDescOf : ℕ → List ℕ → Type 0
-IsDescOf tag desc = ((tag ≡ 9) × IsFieldDesc desc) ⊎ (((tag ≡ 10) ⊎ (tag ≡ 11)) × IsMethodText desc)
+IsDescOf tag desc = ((tag ≡ pool_tag.field) × IsFieldDesc desc) ⊎ (((tag ≡ pool_tag.method) ⊎ (tag ≡ pool_tag.interface_method)) × IsMethodText desc)
 
 -- an entry that can stand in a pool
 abbrev pub IsRightKey : Key → Type 0
@@ -42,7 +43,7 @@ IsRightKey (keys.Member tag class name desc) = IsDescOf tag desc
 
 pub record TellsText (pool : Pool) (table : Table) (text : List ℕ) : Type 0 where
   pub fits : text_index pool text < 2 ^ 16
-  pub tag : tag_at table (text_index pool text) ≡ 1
+  pub tag : tag_at table (text_index pool text) ≡ pool_tag.utf8
   pub text_is : text_at table (text_index pool text) ≡ text
 
 pub record TellsClass (pool : Pool) (table : Table) (name : List ℕ) : Type 0 where

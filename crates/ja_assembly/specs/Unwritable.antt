@@ -1,6 +1,7 @@
 -- Which items of a class cannot be written: what the class file format and the analyser's profile of it do not allow.
 use Rattle.std.specs.Prelude.{◌≡◌, ℕ, ◌+◌, ◌<◌, ◌≤◌, Bool, true, false, not, ◌&&◌, nat_le, nat_lt, bit_and, List, [], ◌∷◌, ◌++◌, length, take, drop, slice_get, slice_index, Option, Some, None, Result, Ok, Err, ◌==◌, ◌⊎◌}
 use Rattle.std.specs.List.{flat_map, take_while}
+use Rattle.ja_base.specs.AccessFlags.{acc_static}
 use Rattle.ja_code.specs.declared.form.Entry.TheVariants as entry_kinds
 use Rattle.ja_code.specs.declared.form.Form.{Form}
 use Rattle.ja_code.specs.declared.form.Form.TheVariants as forms
@@ -150,7 +151,7 @@ IsNoInstruction labels pc opcode operand =
 
 -- parameters of so many words, with the receiver of an instance method, are too many
 abbrev pub IsCrowded : Number → ℕ → Type 0
-IsCrowded flags words = (bit_and flags.size 8 ≡ 0) × (254 < words)
+IsCrowded flags words = (bit_and flags.size acc_static ≡ 0) × (254 < words)
 
 -- the descriptor of a method with too many parameter words
 abbrev pub HasNoRoom : Number → List ℕ → Type 0

@@ -1,5 +1,6 @@
 -- What the class file of a listed class is to say (JVM specification 4.1, 4.5, 4.6, 4.7.3), and the order of its pool.
 use Rattle.std.specs.Prelude.{◌≡◌, ℕ, ◌+◌, Bool, true, false, List, [], ◌∷◌, codes, slice_get, Option, Some, None}
+use Rattle.ja_base.specs.Tag as pool_tag
 use Rattle.ja_code.specs.declared.form.Form.{Form}
 use Rattle.ja_code.specs.declared.form.Form.TheVariants as forms
 use Rattle.ja_code.specs.declared.instr.RawInstr.{RawInstr}
@@ -25,12 +26,12 @@ use Rattle.ja_assembly.specs.Wanted.{method_tag, pool_strings}
 
 -- the entry at an index is a class of this name
 pub record NamesClass (table : Table) (i : ℕ) (name : List ℕ) : Type 0 where
-  pub tag : tag_at table i ≡ 7
+  pub tag : tag_at table i ≡ pool_tag.class
   pub name_is : class_name_at table i ≡ name
 
 -- the entry at an index is a string with this text
 pub record NamesText (table : Table) (i : ℕ) (text : List ℕ) : Type 0 where
-  pub tag : tag_at table i ≡ 8
+  pub tag : tag_at table i ≡ pool_tag.string
   pub text_is : text_at table (first_at table i) ≡ text
 
 -- the entry at an index has this tag and names this member
@@ -97,9 +98,9 @@ pub record SaysHead (table : Table) (head : Head) (flags this super : ℕ) : Typ
 -- what it says of a field or a method: its flags, and the indices of its name and of its descriptor
 pub record SaysMember (table : Table) (member : Member) (flags name desc : ℕ) : Type 0 where
   pub flags_are : member.flags.size ≡ flags
-  pub name_tag : tag_at table name ≡ 1
+  pub name_tag : tag_at table name ≡ pool_tag.utf8
   pub name_is : text_at table name ≡ member.name
-  pub desc_tag : tag_at table desc ≡ 1
+  pub desc_tag : tag_at table desc ≡ pool_tag.utf8
   pub desc_is : text_at table desc ≡ member.desc
 
 -- ---- the whole class file

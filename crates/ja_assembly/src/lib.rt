@@ -16,4 +16,4 @@ pub use key::Key;
 pub use labels::{labels_of, parted, place_behind, size_of};
 pub use law::{law_argument_words, law_written};
 pub use law_read::law_read_back;
-pub use member::{FIELD, METHOD, constructor_of, method_tag};
+pub use member::{constructor_of, method_tag};

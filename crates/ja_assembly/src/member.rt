@@ -3,19 +3,11 @@
 ghost use Rattle.std.specs.Prelude.{◌≡◌, codes, IfOk};
 ghost use Rattle.ja_assembly.specs.Wanted.{method_tag};
 
+use ja_base::tag::{INTERFACE_METHOD, METHOD};
 use ja_base::{Memory, Name};
 use ja_code::Form;
 use ja_listing::MemberName;
 use std::alloc::Global;
-
-/// The tag of a reference to a field.
-pub const FIELD: u8 = 9;
-
-/// The tag of a reference to a method of a class.
-pub const METHOD: u8 = 10;
-
-/// The tag of a reference to a method of an interface.
-const INTERFACE_METHOD: u8 = 11;
 
 /// The tag of the entries that name the methods of an opcode.
 pub fn method_tag(form: Option<Form>) -> u8

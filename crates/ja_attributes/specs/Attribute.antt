@@ -2,6 +2,7 @@
 use Rattle.std.specs.Prelude.{◌≡◌, ℕ, ◌<◌, ◌≤◌, ◌^◌, Bool, true, false, IsTrue, List, [], ◌∷◌, ◌++◌, length, codes, bytes_eq, Option, Some, None}
 use Rattle.std.specs.Int.{w16, w32, to_be_bytes}
 use Rattle.std.specs.List.{flat_map, filter, AllByRecursion}
+use Rattle.ja_base.specs.Tag as pool_tag
 use Rattle.ja_base.specs.Descriptor.{is_one_of}
 use Rattle.ja_bytes.specs.Reading.{Reading, Passes}
 use Rattle.ja_pool.specs.Table.{Table, tag_at, text_at, tags_of, dims_of}
@@ -22,7 +23,7 @@ attribute_bytes a = to_be_bytes w16 a.attribute_name_index ++ (to_be_bytes w32 (
 pub record IsAttribute (table : Table) (a : AttributeInfo) : Type 0 where
   pub index : a.attribute_name_index < 2 ^ 16
   pub size : length a.info < 2 ^ 32
-  pub name : tag_at table a.attribute_name_index ≡ 1
+  pub name : tag_at table a.attribute_name_index ≡ pool_tag.utf8
 
 -- whether the text at an index is this name
 abbrev pub is_named : Table → List ℕ → ℕ → Bool
@@ -53,7 +54,7 @@ pub record PassesAny (table : Table) (old new : Reading) : Type 0 where
 
 -- Integer, Float, Long, Double, String
 abbrev pub is_value_tag : ℕ → Bool
-is_value_tag = is_one_of (3 ∷ 4 ∷ 5 ∷ 6 ∷ 8 ∷ [])
+is_value_tag = is_one_of (pool_tag.integer ∷ pool_tag.float ∷ pool_tag.long ∷ pool_tag.double ∷ pool_tag.string ∷ [])
 
 -- the content of a ConstantValue attribute: the pool index of the constant
 pub record IsConstantValue (table : Table) (info : List ℕ) (index : ℕ) : Type 0 where

@@ -1,5 +1,6 @@
 -- The order in which attributes are judged, and what is at fault: each part names its fault where it stands.
 use Rattle.std.specs.Prelude.{◌≡◌, ℕ, ◌⊎◌, Bool, false, ◌&&◌, not, ⊤, List, codes, nat_le, ◌==◌, is_none, Option, Some, None}
+use Rattle.ja_base.specs.Tag as pool_tag
 use Rattle.ja_bytes.specs.Reading.{Reading}
 use Rattle.ja_pool.specs.Table.{Table, tag_at, tags_of, dims_of}
 use Rattle.ja_code.specs.declared.code.Code.{Code}
@@ -20,7 +21,7 @@ unfoldable pub name_index : Table → Part AttributeFault ℕ
 name_index table = do
   at ← here
   index ← u2 End
-  _ ← check (tag_at table index == 1) (BadIndex at)
+  _ ← check (tag_at table index == pool_tag.utf8) (BadIndex at)
   value index
 
 -- an attribute, whose content is one field; what the content must be depends on the attribute's place and name

@@ -1,6 +1,7 @@
 //! What stands before the content of an attribute (JVM specification 4.7).
 
 ghost use Rattle.std.specs.Prelude.{◌≡◌, ◌+◌, ◌<◌, ◌^◌, length, IfOk};
+ghost use Rattle.ja_base.specs.Tag as pool_tag;
 ghost use Rattle.ja_attributes.specs.Part.{Reads};
 ghost use Rattle.ja_attributes.specs.Faults.{name_index};
 ghost use Rattle.ja_attributes.specs.Attribute.{is_named};
@@ -9,6 +10,7 @@ ghost use Rattle.ja_attributes.specs.Steps.{IsWithin, onward, seen, head};
 
 use crate::AttributeFault;
 use crate::number::{four_bytes, two_bytes};
+use ja_base::tag::UTF8;
 use ja_bytes::Cursor;
 use ja_pool::Pool;
 
@@ -31,7 +33,7 @@ fn name_index(c: &mut Cursor<'_>, base: u64, pool: &Pool) -> Result<u16, Attribu
 {
     let at = base + c.place();
     let index = two_bytes(c, base)?;
-    if pool.tag(u32::from(index)) != 1 {
+    if pool.tag(u32::from(index)) != UTF8 {
         return Err(AttributeFault::BadIndex { at });
     }
     Ok(index)
@@ -73,7 +75,7 @@ pub fn next_attribute<'a>(c: &mut Cursor<'a>, pool: &Pool) -> Result<Attribute<'
 
 /// Whether the text at an index is this name.
 pub fn is_named(pool: &Pool, index: u16, name: &[u8]) -> bool
-    requires { tag_at pool.now index ≡ 1 }
+    requires { tag_at pool.now index ≡ pool_tag.utf8 }
     ensures { result ≡ is_named pool.now name.now index }
 {
     pool.utf8(u32::from(index)) == name

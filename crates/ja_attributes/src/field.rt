@@ -10,6 +10,7 @@ ghost use Rattle.ja_attributes.specs.Steps.{content_of, behind_all, seen};
 use crate::AttributeFault;
 use crate::attribute::{Attribute, is_named, next_attribute};
 use crate::number::two_bytes;
+use ja_base::tag::{DOUBLE, FLOAT, INTEGER, LONG, STRING};
 use ja_bytes::Cursor;
 use ja_pool::Pool;
 
@@ -17,7 +18,7 @@ use ja_pool::Pool;
 fn is_value_tag(tag: u8) -> bool
     ensures { result ≡ is_value_tag tag }
 {
-    matches!(tag, 3 | 4 | 5 | 6 | 8)
+    matches!(tag, INTEGER | FLOAT | LONG | DOUBLE | STRING)
 }
 
 /// The number that two bytes spell.

@@ -1,6 +1,7 @@
 //! What every crate of the analyser speaks of: names, lists, ids, types, refusals and limits, and numbers by name.
 #![tactic(auto)]
 
+pub mod access_flags;
 mod file;
 mod id;
 mod index;
@@ -10,6 +11,7 @@ mod memory;
 mod name;
 mod refusal;
 mod seq;
+pub mod tag;
 
 pub use file::{File, Files};
 pub use id::{BlockId, ClassId, FieldId, MethodId, SiteId};
@@ -20,6 +22,6 @@ pub use limit::{
     MAX_TOTAL_BYTES, MAX_VARIABLES, MAX_WORKERS, MIN_SLOTS,
 };
 pub use memory::Memory;
-pub use name::{Name, Names};
+pub use name::{Name, Names, copy_names};
 pub use refusal::Refusal;
 pub use seq::{Bytes, Flags, Numbers, Seq};

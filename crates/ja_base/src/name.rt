@@ -64,6 +64,17 @@ impl Name {
     }
 }
 
+/// The same names.
+pub fn copy_names(alloc: Global, names: &[Name]) -> Result<Names, Memory>
+    ensures { IfOk result (λ copy. copy ≡ names.now) }
+{
+    let mut copies = Seq::new(alloc);
+    for name in names {
+        copies.push(name.copy(alloc)?)?;
+    }
+    Ok(copies)
+}
+
 impl PartialEq for Name {
     ghost eq = { bytes_eq };
 

@@ -1,4 +1,4 @@
-ghost use Rattle.std.specs.Prelude.{◌≡◌, [], ◌∷◌, ◌++◌, ◌<◌, ◌↔◌, Some, length, slice_get, IsTrue, OnOk, OnErr};
+ghost use Rattle.std.specs.Prelude.{◌≡◌, [], ◌∷◌, ◌++◌, ◌<◌, ◌↔◌, Some, length, slice_get, IsTrue, IfOk, OnOk, OnErr};
 
 use crate::Memory;
 use std::alloc::Global;
@@ -97,5 +97,14 @@ impl<T: Drop> Seq<T> {
             Ok(()) => Ok(()),
             Err(_) => Err(Memory),
         }
+    }
+}
+
+impl<T: Copy> Seq<T> {
+    /// The same items.
+    pub fn copy_of(alloc: Global, items: &[T]) -> Result<Seq<T>, Memory>
+        ensures { IfOk result (λ copy. copy ≡ items.now) }
+    {
+        Ok(Seq::from_vec(Vec::from_slice(alloc, items)?))
     }
 }

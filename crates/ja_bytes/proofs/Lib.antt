@@ -6,3 +6,4 @@ pub mod Language
 pub mod MethodText
 pub mod DescParts
 pub mod Exact
+mod FieldTypes

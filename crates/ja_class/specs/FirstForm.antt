@@ -2,6 +2,7 @@
 use Rattle.std.specs.Prelude.{◌≡◌, ◌≢◌, ℕ, ◌+◌, ◌^◌, ◌<◌, ◌≤◌, List, [], ◌∷◌, ◌++◌, length, codes, bit_and, nat_eq, Some, false}
 use Rattle.std.specs.List.{flat_map, starts_with}
 use Rattle.std.specs.Int.{w16, w32, to_be_bytes}
+use Rattle.ja_base.specs.AccessFlags.{acc_interface, acc_abstract}
 use Rattle.ja_class.specs.Pool.{PoolEntry, Utf8, Class, String, Methodref, NameAndType, entry_at, IsClassNamed, IsPool}
 use Rattle.ja_class.specs.Instruction.{Instruction, bytes_of, IsCodeFrom}
 use Rattle.ja_class.specs.Runnable.{IsRunnable}
@@ -72,8 +73,8 @@ pub record HoldsMethod (c : ClassFile) (m : FirstMethod) : Type 0 where
   pub major : (45 ≤ c.major_version) × (c.major_version ≤ 52)
   pub pool : IsPool c.constant_pool
   pub flags : c.access_flags < 2 ^ 16
-  pub not_interface : bit_and c.access_flags 0x0200 ≡ 0
-  pub not_abstract : bit_and c.access_flags 0x0400 ≡ 0
+  pub not_interface : bit_and c.access_flags acc_interface ≡ 0
+  pub not_abstract : bit_and c.access_flags acc_abstract ≡ 0
   -- `this_class` names a class that is no array, not of the platform, and not that of source and sink
   pub class_name : IsClassNamed c.constant_pool c.this_class m.class
   pub not_array : starts_with nat_eq m.class (codes "[") ≡ false

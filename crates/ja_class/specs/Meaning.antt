@@ -1,6 +1,9 @@
 -- What a class file says of its class.
-use Rattle.std.specs.Prelude.{ℕ, Bool, false, List, codes, bytes_eq, bit_and, not, Option, Some, None, ◌==◌, ◌&&◌, if◌then◌else◌}
+use Rattle.std.specs.Prelude.{ℕ, Bool, false, List, codes, bytes_eq, bit_and, Option, Some, None, ◌==◌, ◌&&◌, if◌then◌else◌}
+use Rattle.ja_base.specs.Tag as pool_tag
+use Rattle.ja_base.specs.AccessFlags.{acc_native, acc_abstract}
 use Rattle.ja_pool.specs.Table.{Table, tag_at, text_at, class_name_at}
+use Rattle.ja_ir.specs.Lookup.{is_static}
 use Rattle.ja_ir.specs.declared.head.HeadField.{HeadField}
 use Rattle.ja_ir.specs.declared.head.HeadMethod.{HeadMethod}
 use Rattle.ja_ir.specs.declared.head.ClassHead.{ClassHead}
@@ -13,18 +16,14 @@ pub record ClassSpelled : Type 0 where
   pub pool : Table
   pub methods : List ClassMethod
 
--- the flag of static fields and methods (tables 4.5-A, 4.6-A)
-abbrev pub is_static : ℕ → Bool
-is_static flags = not (bit_and flags 0x0008 == 0)
-
 -- a method has code, where it is neither abstract nor native (table 4.6-A)
 abbrev pub needs_code : ℕ → Bool
-needs_code flags = bit_and flags 0x0400 == 0 && bit_and flags 0x0100 == 0
+needs_code flags = bit_and flags acc_abstract == 0 && bit_and flags acc_native == 0
 
 -- the constant is a String
 abbrev pub is_string : Table → Option ℕ → Bool
 is_string table None = false
-is_string table (Some index) = tag_at table index == 8
+is_string table (Some index) = tag_at table index == pool_tag.string
 
 -- the constant of a field is the text with which it begins: the field is a static one of type String (4.7.2)
 abbrev pub begins_as_text : Table → (flags : ℕ) → (desc : List ℕ) → (constant : Option ℕ) → Bool

@@ -1,5 +1,7 @@
 -- What the indices of a class file must name, and the descriptors that it must hold (JVM specification 4.1, 4.3, 4.4.2).
 use Rattle.std.specs.Prelude.{◌≡◌, ℕ, ◌+◌, ◌≤◌, Bool, IsTrue, List, [], ◌∷◌, codes, bytes_eq, ◌==◌, ◌&&◌, ◌||◌, if◌then◌else◌, false, Option, bit_and}
+use Rattle.ja_base.specs.Tag as pool_tag
+use Rattle.ja_base.specs.AccessFlags.{acc_static}
 use Rattle.ja_base.specs.declared.java_type.JavaType.{JavaType}
 use Rattle.ja_base.specs.Descriptor.{is_one_of, IsMethod, words_of_all}
 use Rattle.ja_bytes.specs.DescriptorText.{IsFieldDesc, IsMethodText}
@@ -7,16 +9,16 @@ use Rattle.ja_pool.specs.Table.{Table, Placed, entry_tag, entry_second, text_at,
 
 -- the tags of a text, a class, and the references to fields and methods (table 4.4-A)
 abbrev pub utf8_tag : ℕ
-utf8_tag = 1
+utf8_tag = pool_tag.utf8
 
 abbrev pub class_tag : ℕ
-class_tag = 7
+class_tag = pool_tag.class
 
 abbrev pub field_tag : ℕ
-field_tag = 9
+field_tag = pool_tag.field
 
 abbrev pub is_method_tag : ℕ → Bool
-is_method_tag = is_one_of (10 ∷ 11 ∷ [])
+is_method_tag = is_one_of (pool_tag.method ∷ pool_tag.interface_method ∷ [])
 
 -- the text of the descriptor of a reference to a field or a method
 abbrev pub entry_desc : Table → Option Placed → List ℕ
@@ -38,7 +40,7 @@ is_super table name i = tag_at table i == class_tag || (i == 0 && bytes_eq name 
 
 -- the words of the receiver of a method with these flags: a static method has none (table 4.6-A)
 abbrev pub receiver_words : ℕ → ℕ
-receiver_words flags = if bit_and flags 0x0008 == 0 then 1 else 0
+receiver_words flags = if bit_and flags acc_static == 0 then 1 else 0
 
 -- the text is the descriptor of a method with these flags: its parameters, with the receiver, take at most 255 words
 pub record IsMethodDesc (flags : ℕ) (text : List ℕ) : Type 0 where

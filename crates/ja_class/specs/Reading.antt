@@ -3,6 +3,8 @@
 use Rattle.std.specs.Prelude.{◌≡◌, ℕ, zero, suc, ◌+◌, ◌-◌, Bool, true, false, ◌&&◌, List, [], ◌∷◌, length, take, drop, Option, Some, None, Result, Ok, Err, nat_lt, nat_le, nat_eq, is_some, not, bytes_eq, bit_and, codes, slice_index_or, slice_set, ◌==◌, if◌then◌else◌}
 use Rattle.std.specs.Int.{Width, w16, w32, byte_len, from_be_bytes}
 use Rattle.std.specs.List.{list_all, starts_with}
+use Rattle.ja_base.specs.Tag as pool_tag
+use Rattle.ja_base.specs.AccessFlags.{acc_interface, acc_abstract}
 use Rattle.ja_code.specs.Number.{ldc, aload, aload_0, aload_3, astore, astore_0, astore_3, pop, return, invokestatic}
 use Rattle.ja_class.specs.declared.first.FirstOp.{FirstOp}
 use Rattle.ja_class.specs.declared.first.FirstOp.TheVariants as op
@@ -58,19 +60,19 @@ pair_at bytes = do
 -- what stands behind a tag
 unfoldable pub tagged_at : ℕ → List ℕ → Option (PoolEntry × List ℕ)
 tagged_at tag bytes =
-    if tag == 1 then (do
+    if tag == pool_tag.utf8 then (do
       text ← sized_at w16 bytes
       Some (Utf8 text.0, text.1))
-    else if tag == 7 then (do
+    else if tag == pool_tag.class then (do
       name ← number_at w16 bytes
       Some (Class name.0, name.1))
-    else if tag == 8 then (do
+    else if tag == pool_tag.string then (do
       text ← number_at w16 bytes
       Some (String text.0, text.1))
-    else if tag == 10 then (do
+    else if tag == pool_tag.method then (do
       parts ← pair_at bytes
       Some (Methodref parts.0.0 parts.0.1, parts.1))
-    else if tag == 12 then (do
+    else if tag == pool_tag.name_and_type then (do
       parts ← pair_at bytes
       Some (NameAndType parts.0.0 parts.0.1, parts.1))
     else None
@@ -336,7 +338,7 @@ is_runnable locals stack code =
 unfoldable pub has_numbers : ClassFile → Bool
 has_numbers c =
     nat_le 45 c.major_version && nat_le c.major_version 52
-    && (bit_and c.access_flags 0x0200 == 0) && (bit_and c.access_flags 0x0400 == 0)
+    && (bit_and c.access_flags acc_interface == 0) && (bit_and c.access_flags acc_abstract == 0)
     && nat_lt (length c.method.code.code) 65536
 
 -- the names of a class file, but for that of its class

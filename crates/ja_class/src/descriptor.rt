@@ -10,19 +10,11 @@ ghost use Rattle.ja_class.specs.ClassFault.{descriptors};
 
 use crate::ClassFault;
 use ja_base::Memory;
+use ja_base::access_flags::STATIC;
+use ja_base::tag::{FIELD, INTERFACE_METHOD, METHOD};
 use ja_bytes::{DescFault, field_desc, method_desc};
 use ja_pool::Pool;
 use std::alloc::Global;
-
-/// The tags of references to fields and methods (JVM specification table 4.4-A).
-const FIELD: u8 = 9;
-
-const METHOD: u8 = 10;
-
-const INTERFACE_METHOD: u8 = 11;
-
-/// The flag of a static method (JVM specification table 4.6-A).
-const STATIC: u16 = 0x0008;
 
 /// Whether a text is the descriptor of a field.
 pub fn is_field_desc(alloc: Global, text: &[u8]) -> Result<bool, Memory>

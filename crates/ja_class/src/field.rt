@@ -1,6 +1,7 @@
 //! Fields (JVM specification 4.5).
 
 ghost use Rattle.std.specs.Prelude.{◌≡◌, IfOk};
+ghost use Rattle.ja_base.specs.Tag as pool_tag;
 ghost use Rattle.ja_pool.specs.Table.{tag_at};
 ghost use Rattle.ja_attributes.specs.Part.{ReadsUnless};
 ghost use Rattle.ja_class.specs.declared.fault.ClassFault.TheVariants as faults;
@@ -13,23 +14,19 @@ use crate::fault::attribute_fault;
 use crate::member::{Front, front_of};
 use crate::number::u2;
 use ja_attributes::field_attributes;
+use ja_base::access_flags::STATIC;
+use ja_base::tag::STRING;
 use ja_base::{Memory, Name};
 use ja_bytes::Cursor;
 use ja_ir::{HeadField, HeadFields};
 use ja_pool::Pool;
 use std::alloc::Global;
 
-/// The flag of a static field (JVM specification table 4.5-A).
-const STATIC: u16 = 0x0008;
-
-/// The tag of a String (JVM specification table 4.4-A).
-const STRING: u8 = 8;
-
 /// The front of a field, whose descriptor is that of a field.
 fn field_front(alloc: Global, c: &mut Cursor<'_>, pool: &Pool) -> Result<Front, ClassFault>
     ensures reads { ReadsUnless faults.Memory (λ f. f) (field_front pool.now) c.old c.new result }
-    ensures name { IfOk result (λ f. tag_at pool.now f.name ≡ 1) }
-    ensures descriptor { IfOk result (λ f. tag_at pool.now f.descriptor ≡ 1) }
+    ensures name { IfOk result (λ f. tag_at pool.now f.name ≡ pool_tag.utf8) }
+    ensures descriptor { IfOk result (λ f. tag_at pool.now f.descriptor ≡ pool_tag.utf8) }
 {
     let front = front_of(c, pool)?;
     if !is_field_desc(alloc, pool.utf8(u32::from(front.descriptor)))? {
@@ -56,8 +53,8 @@ fn field_said(
     front: Front,
     constant: Option<u16>,
 ) -> Result<HeadField, Memory>
-    requires name { tag_at pool.now front.name ≡ 1 }
-    requires descriptor { tag_at pool.now front.descriptor ≡ 1 }
+    requires name { tag_at pool.now front.name ≡ pool_tag.utf8 }
+    requires descriptor { tag_at pool.now front.descriptor ≡ pool_tag.utf8 }
     ensures { IfOk result (λ f. f ≡ field_said pool.now front.flags front.name front.descriptor constant) }
 {
     let desc = pool.utf8(u32::from(front.descriptor));

@@ -1,6 +1,7 @@
 //! Magic number, version, the class, its superclass and its interfaces (JVM specification 4.1).
 
 ghost use Rattle.std.specs.Prelude.{◌≡◌, IfOk};
+ghost use Rattle.ja_base.specs.Tag as pool_tag;
 ghost use Rattle.ja_pool.specs.Table.{tag_at};
 ghost use Rattle.ja_attributes.specs.Part.{Reads, ReadsUnless};
 ghost use Rattle.ja_class.specs.declared.fault.ClassFault.TheVariants as faults;
@@ -9,7 +10,8 @@ ghost use Rattle.ja_class.specs.Meaning.{super_said};
 ghost use Rattle.ja_class.specs.ClassFault.{magic, version, this_class, super_class, interface, interfaces, names};
 
 use crate::ClassFault;
-use crate::number::{CLASS, index, u2, u4};
+use crate::number::{index, u2, u4};
+use ja_base::tag::CLASS;
 use ja_base::{Memory, Name, Names};
 use ja_bytes::Cursor;
 use ja_pool::Pool;
@@ -61,7 +63,7 @@ fn is_array(name: &[u8]) -> bool
 /// The index of the class, which is no array.
 fn this_class(c: &mut Cursor<'_>, pool: &Pool) -> Result<u16, ClassFault>
     ensures reads { Reads (λ n. n) (this_class pool.now) c.old c.new result }
-    ensures names { IfOk result (λ i. tag_at pool.now i ≡ 7) }
+    ensures names { IfOk result (λ i. tag_at pool.now i ≡ pool_tag.class) }
 {
     let at = c.place();
     let i = index(c, pool, CLASS)?;
@@ -81,7 +83,7 @@ fn is_super(pool: &Pool, name: &[u8], i: u16) -> bool
 /// The index of the superclass of the class with this name; 0 where it has none.
 fn super_class(c: &mut Cursor<'_>, pool: &Pool, name: &[u8]) -> Result<u16, ClassFault>
     ensures reads { Reads (λ n. n) (super_class pool.now name.now) c.old c.new result }
-    ensures names { IfOk result (λ i. (i ≡ 0 → ⊥) → tag_at pool.now i ≡ 7) }
+    ensures names { IfOk result (λ i. (i ≡ 0 → ⊥) → tag_at pool.now i ≡ pool_tag.class) }
 {
     let at = c.place();
     let i = u2(c)?;
@@ -93,7 +95,7 @@ fn super_class(c: &mut Cursor<'_>, pool: &Pool, name: &[u8]) -> Result<u16, Clas
 
 /// The name of the superclass, if the index names one.
 fn superclass_name(alloc: Global, pool: &Pool, i: u16) -> Result<Option<Name>, Memory>
-    requires { (i ≡ 0 → ⊥) → tag_at pool.now i ≡ 7 }
+    requires { (i ≡ 0 → ⊥) → tag_at pool.now i ≡ pool_tag.class }
     ensures { IfOk result (λ name. name ≡ super_said pool.now i) }
 {
     if i == 0 {

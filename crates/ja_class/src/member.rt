@@ -1,12 +1,14 @@
 //! What fields and methods have in common (JVM specification 4.5, 4.6).
 
 ghost use Rattle.std.specs.Prelude.{◌≡◌, IfOk};
+ghost use Rattle.ja_base.specs.Tag as pool_tag;
 ghost use Rattle.ja_pool.specs.Table.{tag_at};
 ghost use Rattle.ja_attributes.specs.Part.{Reads};
 ghost use Rattle.ja_class.specs.ClassFault.{front};
 
 use crate::ClassFault;
-use crate::number::{UTF8, index, u2};
+use crate::number::{index, u2};
+use ja_base::tag::UTF8;
 use ja_bytes::Cursor;
 use ja_pool::Pool;
 
@@ -25,8 +27,8 @@ pub struct Front {
 /// The front of a field or a method.
 pub fn front_of(c: &mut Cursor<'_>, pool: &Pool) -> Result<Front, ClassFault>
     ensures reads { Reads (λ f. f) (front pool.now) c.old c.new result }
-    ensures name { IfOk result (λ f. tag_at pool.now f.name ≡ 1) }
-    ensures descriptor { IfOk result (λ f. tag_at pool.now f.descriptor ≡ 1) }
+    ensures name { IfOk result (λ f. tag_at pool.now f.name ≡ pool_tag.utf8) }
+    ensures descriptor { IfOk result (λ f. tag_at pool.now f.descriptor ≡ pool_tag.utf8) }
 {
     let flags = u2(c)?;
     let name = index(c, pool, UTF8)?;

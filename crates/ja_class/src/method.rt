@@ -1,6 +1,7 @@
 //! Methods (JVM specification 4.6).
 
 ghost use Rattle.std.specs.Prelude.{◌≡◌, ◌<◌, ◌^◌, length, IfOk};
+ghost use Rattle.ja_base.specs.Tag as pool_tag;
 ghost use Rattle.ja_pool.specs.Table.{tag_at};
 ghost use Rattle.ja_attributes.specs.Part.{ReadsUnless};
 ghost use Rattle.ja_class.specs.declared.fault.ClassFault.TheVariants as faults;
@@ -14,16 +15,12 @@ use crate::fault::attribute_fault;
 use crate::member::{Front, front_of};
 use crate::number::u2;
 use ja_attributes::{MethodCode, method_attributes};
+use ja_base::access_flags::{ABSTRACT, NATIVE};
 use ja_base::{Memory, Name};
 use ja_bytes::Cursor;
 use ja_ir::{HeadMethod, HeadMethods};
 use ja_pool::Pool;
 use std::alloc::Global;
-
-/// The flags of methods without code (JVM specification table 4.6-A).
-const ABSTRACT: u16 = 0x0400;
-
-const NATIVE: u16 = 0x0100;
 
 /// A method, without its code and with it.
 #[derive(Drop)]
@@ -42,8 +39,8 @@ pub struct MethodLists {
 /// The front of a method, whose descriptor is that of a method with its flags.
 fn method_front(alloc: Global, c: &mut Cursor<'_>, pool: &Pool) -> Result<Front, ClassFault>
     ensures reads { ReadsUnless faults.Memory (λ f. f) (method_front pool.now) c.old c.new result }
-    ensures name { IfOk result (λ f. tag_at pool.now f.name ≡ 1) }
-    ensures descriptor { IfOk result (λ f. tag_at pool.now f.descriptor ≡ 1) }
+    ensures name { IfOk result (λ f. tag_at pool.now f.name ≡ pool_tag.utf8) }
+    ensures descriptor { IfOk result (λ f. tag_at pool.now f.descriptor ≡ pool_tag.utf8) }
 {
     let front = front_of(c, pool)?;
     if !is_method_desc(alloc, front.flags, pool.utf8(u32::from(front.descriptor)))? {
@@ -61,8 +58,8 @@ fn needs_code(flags: u16) -> bool
 
 /// What a method says, where its front is read.
 fn method_said(alloc: Global, pool: &Pool, front: Front) -> Result<HeadMethod, Memory>
-    requires name { tag_at pool.now front.name ≡ 1 }
-    requires descriptor { tag_at pool.now front.descriptor ≡ 1 }
+    requires name { tag_at pool.now front.name ≡ pool_tag.utf8 }
+    requires descriptor { tag_at pool.now front.descriptor ≡ pool_tag.utf8 }
     ensures { IfOk result (λ m. m ≡ method_said pool.now front.flags front.name front.descriptor) }
 {
     Ok(HeadMethod {

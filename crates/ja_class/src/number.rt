@@ -10,12 +10,6 @@ use crate::ClassFault;
 use ja_bytes::Cursor;
 use ja_pool::Pool;
 
-/// The tag of a text (JVM specification table 4.4-A).
-pub const UTF8: u8 = 1;
-
-/// The tag of a class (JVM specification table 4.4-A).
-pub const CLASS: u8 = 7;
-
 /// A number of two bytes.
 pub fn u2(c: &mut Cursor<'_>) -> Result<u16, ClassFault>
     ensures { Reads (λ n. n) (two_bytes End) c.old c.new result }

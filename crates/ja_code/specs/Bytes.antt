@@ -1,5 +1,6 @@
 -- Numbers in the bytes of an instruction, and what they stand for.
 use Rattle.std.specs.Prelude.{ℕ, zero, suc, ◌+◌, ◌-◌, ◌*◌, ◌%◌, List, [], ◌∷◌, Bool, slice_index, nat_lt, ◌==◌, ◌||◌, if◌then◌else◌}
+use Rattle.ja_base.specs.Tag as pool_tag
 use Rattle.ja_code.specs.declared.form.Entry.{Entry}
 use Rattle.ja_code.specs.declared.form.Entry.TheVariants.{Loadable, TwoWord, Field, Method, InterfaceMethod, AnyMethod, Class}
 
@@ -47,10 +48,10 @@ tag_at tags i = slice_index tags i
 
 -- whether an entry with this tag is what an index must name (JVM specification 4.4 and 6.5)
 abbrev pub names : Entry → ℕ → Bool
-names Loadable tag = tag == 3 || tag == 4 || tag == 7 || tag == 8
-names TwoWord tag = tag == 5 || tag == 6
-names Field tag = tag == 9
-names Method tag = tag == 10
-names InterfaceMethod tag = tag == 11
-names AnyMethod tag = tag == 10 || tag == 11
-names Class tag = tag == 7
+names Loadable tag = tag == pool_tag.integer || tag == pool_tag.float || tag == pool_tag.class || tag == pool_tag.string
+names TwoWord tag = tag == pool_tag.long || tag == pool_tag.double
+names Field tag = tag == pool_tag.field
+names Method tag = tag == pool_tag.method
+names InterfaceMethod tag = tag == pool_tag.interface_method
+names AnyMethod tag = tag == pool_tag.method || tag == pool_tag.interface_method
+names Class tag = tag == pool_tag.class

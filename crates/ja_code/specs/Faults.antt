@@ -1,5 +1,6 @@
 -- The order of the checks of a code array: its fault is that of the first check that fails.
 use Rattle.std.specs.Prelude.{◌≡◌, ℕ, ◌+◌, ◌-◌, ◌*◌, ◌<◌, List, [], ◌∷◌, ◌++◌, length, Bool, true, false, not, Option, Some, None, Result, Err, slice_index, nat_lt, nat_le, ◌==◌, ◌||◌, ◌&&◌, if◌then◌else◌}
+use Rattle.ja_base.specs.Tag as pool_tag
 use Rattle.ja_code.specs.declared.form.Entry.{Entry}
 use Rattle.ja_code.specs.declared.form.Entry.TheVariants.{Loadable, InterfaceMethod, Class}
 use Rattle.ja_code.specs.declared.form.Form.{Form}
@@ -38,7 +39,7 @@ unless pc op cause = record { fails = cause; fault = RefusedOpcode pc op }
 
 -- whether an entry with this tag is a method handle or a method type where one is loaded
 abbrev pub is_handle : Entry → ℕ → Bool
-is_handle Loadable tag = tag == 15 || tag == 16
+is_handle Loadable tag = tag == pool_tag.method_handle || tag == pool_tag.method_type
 is_handle _ tag = false
 
 -- the checks of what an index names: a constant that is a method handle or a method type is refused

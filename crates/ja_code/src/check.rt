@@ -9,29 +9,10 @@ use crate::fault::CodeFault;
 use crate::form::{Entry, Form};
 use crate::number::RET;
 use crate::opcode::{form_of, is_refused};
-
-// Tags of the constant pool (JVM specification 4.4).
-const INTEGER: u8 = 3;
-
-const FLOAT: u8 = 4;
-
-const LONG: u8 = 5;
-
-const DOUBLE: u8 = 6;
-
-const CLASS: u8 = 7;
-
-const STRING: u8 = 8;
-
-const FIELD: u8 = 9;
-
-const METHOD: u8 = 10;
-
-const INTERFACE_METHOD: u8 = 11;
-
-const METHOD_HANDLE: u8 = 15;
-
-const METHOD_TYPE: u8 = 16;
+use ja_base::tag::{
+    CLASS, DOUBLE, FIELD, FLOAT, INTEGER, INTERFACE_METHOD, LONG, METHOD, METHOD_HANDLE,
+    METHOD_TYPE, STRING,
+};
 
 /// Whether an entry with this tag is what an index must name.
 pub(crate) fn is_named(entry: Entry, tag: u8) -> bool

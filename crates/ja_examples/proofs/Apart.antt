@@ -16,20 +16,20 @@ use Rattle.ja_ir.specs.declared.row.RowEffect.{RowEffect}
 use Rattle.ja_ir.specs.Operations.{arguments, is_dispatched}
 use Rattle.ja_facts.specs.Least.{Each}
 use Rattle.ja_facts.specs.Slots.{Slot, Local, OnStack, Copies, CallAt, kept_local, kept_stack, loaded, stored, shuffled, checked, argument}
-use Rattle.ja_facts.specs.Actions.{IsRun, runs_initialiser, runs_constructor, runs_entry}
-use Rattle.ja_facts.specs.ClassSets.{Fact as ClassFact, Reached, InEnv, InSlot, InThrown, InParam, InResult, InOut, InField, InBag, CallsMethod, CallsAbstract, CallsLibrary, Spans, Takes as TakesArguments, Rule as ClassRule, found_method, selects_method, by_static, by_special}
+use Rattle.ja_facts.specs.Actions.{IsRun, runs_initializer, runs_constructor, runs_entry}
+use Rattle.ja_facts.specs.ClassSets.{Fact as ClassFact, Reached, InEnv, InSlot, InThrown, InParam, InResult, InOut, InField, InBag, CallsMethod, CallsAbstract, CallsLibrary, Spans, Takes, Rule as ClassRule, found_method, selects_method, by_static, by_special}
 use Rattle.ja_facts.specs.ClassSets.{IsSource}
-use Rattle.ja_facts.specs.Sharing.{Fact as HeapFact, PairAt, PairWithin, Effect, Root, Arg, Fields, Name, At as NameAt, Statics, Old, Keeps, keeps_slot, keeps_statics, keeps_old, Takes, takes_field, takes_element, takes_static, Writes, writes_field, writes_element, writes_static, IsRootOf, IsReference, root_name, start_name, Rule as HeapRule, LibraryEnds, ends_normally, ends_by_exception, RaisesNew, raised_here, raised_at_abstract, entered_begins, entered_begins_old, crossing_kept, affected_answer, answer_meets, answer_meets_itself, entered_effect}
-use Rattle.ja_facts.specs.Sharing.{turned, turned_within, statics_meet, statics_meet_old, run_begins, run_begins_old, kept, copied, made, taken, taken_meets, static_taken, static_taken_meets, static_taken_shares, written, static_written, within, absorbed, library_ends, library_meets, library_argument, library_argument_meets, library_member, affected_meets, throws_new, throw_kept, library_throws, thrown, thrown_meets, written_effect, static_effect, library_effect}
+use Rattle.ja_facts.specs.Sharing.{Fact as HeapFact, PairAt, PairWithin, Effect, Root, Arg, StaticFields, Name, OfSlot, Statics, Old, Keeps, keeps_slot, keeps_statics, keeps_old, Loads, loads_field, loads_element, loads_static, Writes, writes_field, writes_element, writes_static, IsRootOf, IsReference, root_name, start_name, Rule as HeapRule, LibraryEnds, ends_normally, ends_by_exception, RaisesNew, raised_here, raised_at_abstract, entered_begins, entered_begins_old, crossing_kept, affected_answer, answer_meets, answer_meets_itself, entered_effect}
+use Rattle.ja_facts.specs.Sharing.{turned, turned_within, statics_meet, statics_meet_old, run_begins, run_begins_old, kept, copied, made, object_loaded, object_loaded_meets, static_loaded, static_loaded_meets, static_loaded_shares, written, static_written, within, absorbed, library_ends, library_meets, library_argument, library_argument_meets, library_member, affected_meets, throws_new, throw_kept, library_throws, thrown, thrown_meets, written_effect, static_effect, library_effect}
 use Rattle.ja_facts.specs.Formulas.{IsAffected}
 use Rattle.ja_facts.proofs.LeastLaws.{Least-below}
 use Rattle.ja_facts.specs.Analyses.{Classes, Heaps, analyses_of}
 use Rattle.ja_examples.specs.Unlinking.{unlinking, unlinking_f, unlinking_main, unlinking_entry, unlink}
 use Rattle.ja_examples.proofs.Listed.{AllFrom, all_at, only_item, no_item}
 use Rattle.ja_ir.specs.Params.{IsReferenceParam, param_local}
-use Rattle.ja_facts.specs.Crossings.{Enters, by_call, by_initialiser, Crossing, Crosses, call_returns, call_throws, initialiser_returns, IsHandled}
+use Rattle.ja_facts.specs.Crossings.{Enters, by_call, by_initializer, Crossing, Crosses, call_returns, call_throws, initializer_returns, IsHandled}
 use Rattle.ja_ir.specs.Initializing.{inits_of_class}
-use Rattle.ja_examples.proofs.Initless.{no_init, no_initialiser}
+use Rattle.ja_examples.proofs.Initless.{no_init, no_initializer}
 
 -- ---- the instructions
 
@@ -175,7 +175,7 @@ calls_solve ps (CallsMethod m i n) rule each = calls_f rule
 calls_solve ps (CallsAbstract m i n) rule each = tt
 calls_solve ps (CallsLibrary m i) rule each = tt
 calls_solve ps (Spans t u) rule each = tt
-calls_solve ps (TakesArguments m i b) rule each = tt
+calls_solve ps (Takes m i b) rule each = tt
 
 goes_to_f : (m i n : ℕ) → Classes unlinking (CallsMethod m i n) → (m ≡ 1) × (i ≡ 8) × (n ≡ 0)
 goes_to_f m i n x = Least-below (ClassRule unlinking) CallsOnly calls_solve (CallsMethod m i n) x
@@ -190,20 +190,20 @@ main_side (OnStack k) = false
 
 -- in f the static fields, and what they reached, stand on one side
 abbrev side : ℕ → Name → Bool
-side zero (NameAt z) = false
+side zero (OfSlot z) = false
 side zero Statics = true
 side zero (Old (Arg k)) = false
-side zero (Old Fields) = true
-side (suc m) (NameAt z) = main_side z
+side zero (Old StaticFields) = true
+side (suc m) (OfSlot z) = main_side z
 side (suc m) Statics = true
 side (suc m) (Old r) = true
 
 -- f has one parameter
 abbrev IsFine : ℕ → Name → Type 0
-IsFine zero (NameAt z) = Unit {0}
+IsFine zero (OfSlot z) = Unit {0}
 IsFine zero Statics = Unit {0}
 IsFine zero (Old (Arg k)) = k ≡ 0
-IsFine zero (Old Fields) = Unit {0}
+IsFine zero (Old StaticFields) = Unit {0}
 IsFine (suc m) a = Unit {0}
 
 -- a place in f, or in main up to the call
@@ -222,7 +222,7 @@ Holds (PairWithin m i a b) = Apart m i a b
 Holds (Effect zero r) = r ≡ Arg 0
 Holds (Effect (suc m) r) = Unit {0}
 
-fine_slot : (m : ℕ) (z : Slot) → IsFine m (NameAt z)
+fine_slot : (m : ℕ) (z : Slot) → IsFine m (OfSlot z)
 fine_slot zero z = tt
 fine_slot (suc m) z = tt
 
@@ -230,7 +230,7 @@ fine_statics : (m : ℕ) → IsFine m Statics
 fine_statics zero = tt
 fine_statics (suc m) = tt
 
-fine_fields : (m : ℕ) → IsFine m (Old Fields)
+fine_fields : (m : ℕ) → IsFine m (Old StaticFields)
 fine_fields zero = tt
 fine_fields (suc m) = tt
 
@@ -243,11 +243,11 @@ fine_kept m (keeps_slot {y = y} copies) fine = fine_slot m y
 fine_kept m keeps_statics fine = fine
 fine_kept m keeps_old fine = fine
 
-statics_side : (m : ℕ) → side m Statics ≡ side m (Old Fields)
+statics_side : (m : ℕ) → side m Statics ≡ side m (Old StaticFields)
 statics_side zero = refl
 statics_side (suc m) = refl
 
-stack_side : (m k : ℕ) → side m (NameAt (OnStack k)) ≡ false
+stack_side : (m k : ℕ) → side m (OfSlot (OnStack k)) ≡ false
 stack_side zero k = refl
 stack_side (suc m) k = refl
 
@@ -264,7 +264,7 @@ main_copies i ok (stored {l = l} h) = sym (local_side l ok)
 main_copies i ok (shuffled under j k h g) = refl
 main_copies i ok (checked h) = refl
 
-slot_side : (m i : ℕ) {op : Op} {height : ℕ} {z y : Slot} → Ok m i op → Copies op height z y → side m (NameAt z) ≡ side m (NameAt y)
+slot_side : (m i : ℕ) {op : Op} {height : ℕ} {z y : Slot} → Ok m i op → Copies op height z y → side m (OfSlot z) ≡ side m (OfSlot y)
 slot_side zero i ok copies = refl
 slot_side (suc zero) i ok copies = main_copies i ok copies
 slot_side (suc (suc m)) i ok copies = absurd ok
@@ -288,27 +288,27 @@ move m i j ok l k h x = record {
 }
 
 -- a new name in place of one of the same side
-instead : (m i j : ℕ) {op : Op} {height : ℕ} {b d : Name} (x r : Slot) → side m (NameAt x) ≡ side m (NameAt r) → Ok m i op → Leads unlinking m i j → Keeps op height b d
-    → Apart m i (NameAt x) b → Apart m j (NameAt r) d
+instead : (m i j : ℕ) {op : Op} {height : ℕ} {b d : Name} (x r : Slot) → side m (OfSlot x) ≡ side m (OfSlot r) → Ok m i op → Leads unlinking m i j → Keeps op height b d
+    → Apart m i (OfSlot x) b → Apart m j (OfSlot r) d
 instead m i j x r same ok l h pair = record {
   first = fine_slot m r;
   second = fine_kept m h pair.second;
   sides = λ early. sym same ∙ pair.sides (early_before m i j l early) ∙ kept_side m i ok h;
 }
 
-both : (m i : ℕ) (r : Slot) → Apart m i (NameAt r) (NameAt r)
+both : (m i : ℕ) (r : Slot) → Apart m i (OfSlot r) (OfSlot r)
 both m i r = record { first = fine_slot m r; second = fine_slot m r; sides = λ early. refl }
 
-takes_side : (m : ℕ) {op : Op} {height : ℕ} {x r : Slot} → Takes op height x r → side m (NameAt x) ≡ side m (NameAt r)
-takes_side m (takes_field h) = refl
-takes_side m (takes_element h) = refl
+takes_side : (m : ℕ) {op : Op} {height : ℕ} {x r : Slot} → Loads op height x r → side m (OfSlot x) ≡ side m (OfSlot r)
+takes_side m (loads_field h) = refl
+takes_side m (loads_element h) = refl
 
-writes_side : (m : ℕ) {op : Op} {height : ℕ} {x v : Slot} → Writes op height x v → side m (NameAt x) ≡ side m (NameAt v)
+writes_side : (m : ℕ) {op : Op} {height : ℕ} {x v : Slot} → Writes op height x v → side m (OfSlot x) ≡ side m (OfSlot v)
 writes_side m (writes_field {k = k} h) = stack_side m k ∙ sym (stack_side m (suc k))
 writes_side m (writes_element {k = k} h) = stack_side m k ∙ sym (stack_side m (suc (suc k)))
 
 -- the arguments stand on the side of a result
-answer_side : (m k under : ℕ) → side m (NameAt (argument under k)) ≡ side m (NameAt (OnStack under))
+answer_side : (m k under : ℕ) → side m (OfSlot (argument under k)) ≡ side m (OfSlot (OnStack under))
 answer_side m k under = stack_side m (under + k) ∙ sym (stack_side m under)
 
 -- a library call leads on to the next instruction with the pairs that it has then
@@ -321,7 +321,7 @@ stayed : (m i j : ℕ) {left : ℕ} {a b : Name} → LibraryEnds unlinking (Clas
 stayed m i j ends x = record { first = x.first; second = x.second; sides = λ early. x.sides (early_before m i j (ends_next m i j ends) early) }
 
 -- a result in place of an argument
-answered : (m i j under k : ℕ) {b : Name} → Leads unlinking m i j → Apart m i (NameAt (argument under k)) b → Apart m j (NameAt (OnStack under)) b
+answered : (m i j under k : ℕ) {b : Name} → Leads unlinking m i j → Apart m i (OfSlot (argument under k)) b → Apart m j (OfSlot (OnStack under)) b
 answered m i j under k l x = record {
   first = fine_slot m (OnStack under);
   second = x.second;
@@ -336,12 +336,12 @@ no_inits (suc c) = refl
 -- main's call of f alone enters a method, and it comes back behind it
 enters_f : (m i n : ℕ) {count under : ℕ} → Enters unlinking (Classes unlinking) m i n count under → (m ≡ 1) × (i ≡ 8) × (n ≡ 0)
 enters_f m i n (by_call reached calls at) = goes_to_f m i n calls
-enters_f m i n (by_initialiser reached init o) = absurd (no_init unlinking no_inits init)
+enters_f m i n (by_initializer reached init o) = absurd (no_init unlinking no_inits init)
 
 crosses_f : (m i n : ℕ) {x : Crossing} → Crosses unlinking (Classes unlinking) m i n x → (m ≡ 1) × (i ≡ 8) × Leads unlinking m i x.back
 crosses_f m i n (call_returns reached calls at l) = ((goes_to_f m i n calls).0, (goes_to_f m i n calls).1, l)
 crosses_f m i n (call_throws {j = j} reached calls at handled) = absurd (no_handler m i j handled)
-crosses_f m i n (initialiser_returns reached init o) = absurd (no_init unlinking no_inits init)
+crosses_f m i n (initializer_returns reached init o) = absurd (no_init unlinking no_inits init)
 
 -- after the call anything may be
 late : (m i n : ℕ) (x : Crossing) (a b : Name) → Crosses unlinking (Classes unlinking) m i n x → Apart m x.back a b
@@ -374,26 +374,26 @@ no_source m x {call = call} at source = subst (λ (effect : RowEffect). IsSource
 -- the static fields, or an argument
 abbrev root_side : Root → Bool
 root_side (Arg k) = false
-root_side Fields = true
+root_side StaticFields = true
 
 called_root : (m under : ℕ) (r : Root) → m ≡ 1 → side m (root_name under r) ≡ root_side r
 called_root zero under r e = absurd (omega (arith, e))
 called_root (suc m) under (Arg k) e = refl
-called_root (suc m) under Fields e = refl
+called_root (suc m) under StaticFields e = refl
 
 begun_root : (n : ℕ) (method : Method) (r : Root) → n ≡ 0 → side n (start_name method r) ≡ root_side r
 begun_root zero method (Arg k) e = refl
-begun_root zero method Fields e = refl
+begun_root zero method StaticFields e = refl
 begun_root (suc n) method r e = absurd (omega (arith, e))
 
 begun_old : (n : ℕ) (r : Root) → n ≡ 0 → side n (Old r) ≡ root_side r
 begun_old zero (Arg k) e = refl
-begun_old zero Fields e = refl
+begun_old zero StaticFields e = refl
 begun_old (suc n) r e = absurd (omega (arith, e))
 
 fine_start : (n : ℕ) (method : Method) (r : Root) → IsFine n (start_name method r)
 fine_start n method (Arg k) = fine_slot n (Local (param_local method k))
-fine_start n method Fields = fine_statics n
+fine_start n method StaticFields = fine_statics n
 
 -- the pair of two roots at a call of f says that they stand on one side
 called_sides : (m i under : ℕ) (s r : Root) → m ≡ 1 → i ≡ 8 → Apart m i (root_name under s) (root_name under r) → root_side s ≡ root_side r
@@ -413,7 +413,7 @@ one_argument m i n {k = k} {call = call} at calls below =
 
 entered_argument : (m i n : ℕ) {count under k : ℕ} → Enters unlinking (Classes unlinking) m i n count under → k < count → k ≡ 0
 entered_argument m i n (by_call reached calls at) below = one_argument m i n at calls below
-entered_argument m i n (by_initialiser reached init o) below = absurd (no_init unlinking no_inits init)
+entered_argument m i n (by_initializer reached init o) below = absurd (no_init unlinking no_inits init)
 
 fine_old : (m i n : ℕ) {count under : ℕ} (r : Root) → Enters unlinking (Classes unlinking) m i n count under → IsRootOf count r → IsFine n (Old r)
 fine_old m i n (Arg k) enters below = fine n (enters_f m i n enters).2 (entered_argument m i n enters below)
@@ -421,7 +421,7 @@ fine_old m i n (Arg k) enters below = fine n (enters_f m i n enters).2 (entered_
     fine : (n : ℕ) → n ≡ 0 → k ≡ 0 → IsFine n (Old (Arg k))
     fine zero e f = f
     fine (suc n) e f = tt
-fine_old m i n Fields enters below = fine_fields n
+fine_old m i n StaticFields enters below = fine_fields n
 
 -- the environment runs main alone
 the_entry : (entry : Entry) → Contains unlinking.entries entry → unlinking_entry ≡ entry
@@ -429,7 +429,7 @@ the_entry entry (zero, below, e) = e
 the_entry entry (suc k, below, e) = absurd (omega (arith, below))
 
 is_run : (m : ℕ) → IsRun unlinking m → m ≡ 1
-is_run m (runs_initialiser x) = absurd (no_initialiser unlinking no_inits x)
+is_run m (runs_initializer x) = absurd (no_initializer unlinking no_inits x)
 is_run m (runs_constructor entry objects cons) =
     let found : Some unlinking_main ≡ Some objects.method = subst (λ (e : Entry). slice_get unlinking.methods e.method.0 ≡ Some objects.method) (sym (the_entry entry objects.is_entry.listed)) objects.is_entry.found in
     let same : unlinking_main ≡ objects.method = cc found in
@@ -445,7 +445,7 @@ run_root (suc zero) method (Arg k) e found is =
     first : (k : ℕ) → IsReferenceParam unlinking_main k → main_side (Local (param_local unlinking_main k)) ≡ true
     first zero is = refl
     first (suc k) is = absurd (cc is)
-run_root (suc zero) method Fields e found is = refl
+run_root (suc zero) method StaticFields e found is = refl
 run_root (suc (suc m)) method r e found is = absurd (omega (arith, e))
 
 run_old : (m : ℕ) (r : Root) → m ≡ 1 → side m (Old r) ≡ true
@@ -458,8 +458,8 @@ swapped : (m i : ℕ) (a b : Name) → Apart m i a b → Apart m i b a
 swapped m i a b x = record { first = x.second; second = x.first; sides = λ early. sym (x.sides early) }
 
 -- a write through an object puts a name of its side beside what meets the value
-joined : (m i j : ℕ) {op : Op} {height : ℕ} {x v : Slot} {a b c d : Name} → Ok m i op → Leads unlinking m i j → side m (NameAt x) ≡ side m (NameAt v) → Keeps op height a c → Keeps op height b d
-    → Apart m i a (NameAt x) → Apart m i (NameAt v) b → Apart m j c d
+joined : (m i j : ℕ) {op : Op} {height : ℕ} {x v : Slot} {a b c d : Name} → Ok m i op → Leads unlinking m i j → side m (OfSlot x) ≡ side m (OfSlot v) → Keeps op height a c → Keeps op height b d
+    → Apart m i a (OfSlot x) → Apart m i (OfSlot v) b → Apart m j c d
 joined m i j ok l same k h through value = record {
   first = fine_kept m k through.first;
   second = fine_kept m h value.second;
@@ -467,9 +467,9 @@ joined m i j ok l same k h through value = record {
       sym (kept_side m i ok k) ∙ through.sides (early_before m i j l early) ∙ same ∙ value.sides (early_before m i j l early) ∙ kept_side m i ok h;
 }
 
-written_root : (m i : ℕ) (x : Slot) (r : Root) → Apart m i (NameAt x) (Old r) → Holds (Effect m r)
+written_root : (m i : ℕ) (x : Slot) (r : Root) → Apart m i (OfSlot x) (Old r) → Holds (Effect m r)
 written_root zero i x (Arg k) pair = ap Arg pair.second
-written_root zero i x Fields pair = absurd (cc (pair.sides tt))
+written_root zero i x StaticFields pair = absurd (cc (pair.sides tt))
 written_root (suc m) i x r pair = tt
 
 called_effect : (m : ℕ) (r : Root) → m ≡ 1 → Holds (Effect m r)
@@ -516,11 +516,11 @@ pairs_solve _ _ (copied {m = m} {i = i} {x = x} {y = y} step plain k h other) ea
   sides = λ early. sym (slot_side m i (ok_at m step.at) k) ∙ slot_side m i (ok_at m step.at) h;
 }
 pairs_solve _ _ (made {m = m} {j = j} {r = r} step makes) each = both m j r
-pairs_solve _ _ (taken {m = m} {i = i} {j = j} {x = x} {r = r} step takes h) each = instead m i j x r (takes_side m takes) (ok_at m step.at) step.leads h each.0
-pairs_solve _ _ (taken_meets {m = m} {j = j} {r = r} step takes) each = both m j r
-pairs_solve _ _ (static_taken {m = m} {i = i} step takes_static h) each = absurd (no_get m i step.at)
-pairs_solve _ _ (static_taken_meets {m = m} {i = i} step takes_static) each = absurd (no_get m i step.at)
-pairs_solve _ _ (static_taken_shares {m = m} {i = i} step takes_static) each = absurd (no_get m i step.at)
+pairs_solve _ _ (object_loaded {m = m} {i = i} {j = j} {x = x} {r = r} step takes h) each = instead m i j x r (takes_side m takes) (ok_at m step.at) step.leads h each.0
+pairs_solve _ _ (object_loaded_meets {m = m} {j = j} {r = r} step takes) each = both m j r
+pairs_solve _ _ (static_loaded {m = m} {i = i} step loads_static h) each = absurd (no_get m i step.at)
+pairs_solve _ _ (static_loaded_meets {m = m} {i = i} step loads_static) each = absurd (no_get m i step.at)
+pairs_solve _ _ (static_loaded_shares {m = m} {i = i} step loads_static) each = absurd (no_get m i step.at)
 pairs_solve _ _ (written {m = m} {i = i} {j = j} step writes live k h) each = joined m i j (ok_at m step.at) step.leads (writes_side m writes) k h each.0 each.1.0
 pairs_solve _ _ (static_written {m = m} {i = i} step (writes_static e) h) each = absurd (no_set m i step.at)
 pairs_solve _ _ (within library) each = each.0
@@ -533,9 +533,9 @@ pairs_solve _ _ (library_argument_meets {m = m} {j = j} {under = under} answer i
 pairs_solve _ _ (library_member {m = m} {i = i} {j = j} {under = under} k answer from h) each = answered m i j under k answer.leads each.0
 pairs_solve _ _ (crossing_kept {m = m} {i = i} {n = n} {a = a} {b = b} x crosses k h) each = late m i n x a b crosses
 pairs_solve _ _ (affected_meets {m = m} {i = i} {n = n} {a = a} {b = b} x s r crosses is_s is_r live k h) each = late m i n x a b crosses
-pairs_solve _ _ (affected_answer {m = m} {i = i} {n = n} {a = a} x s crosses is_s answers live k) each = late m i n x a (NameAt (OnStack x.left)) crosses
-pairs_solve _ _ (answer_meets {m = m} {i = i} {n = n} {b = b} x r crosses is_r answers h) each = late m i n x (NameAt (OnStack x.left)) b crosses
-pairs_solve _ _ (answer_meets_itself {m = m} {i = i} {n = n} x crosses answers) each = late m i n x (NameAt (OnStack x.left)) (NameAt (OnStack x.left)) crosses
+pairs_solve _ _ (affected_answer {m = m} {i = i} {n = n} {a = a} x s crosses is_s answers live k) each = late m i n x a (OfSlot (OnStack x.left)) crosses
+pairs_solve _ _ (answer_meets {m = m} {i = i} {n = n} {b = b} x r crosses is_r answers h) each = late m i n x (OfSlot (OnStack x.left)) b crosses
+pairs_solve _ _ (answer_meets_itself {m = m} {i = i} {n = n} x crosses answers) each = late m i n x (OfSlot (OnStack x.left)) (OfSlot (OnStack x.left)) crosses
 pairs_solve _ _ (throws_new {m = m} {i = i} {j = j} raises) each = absurd (no_raise m i j raises)
 pairs_solve _ _ (throw_kept {m = m} {i = i} {j = j} raises k h) each = absurd (no_raise m i j raises)
 pairs_solve _ _ (thrown {m = m} {i = i} {j = j} throws h) each = absurd (no_handler m i j throws.handled)
@@ -555,6 +555,6 @@ only_argument r x = holds (Effect 0 r) x
 -- main's argument is not affected by the call
 pub not_affected : IsAffected (analyses_of unlinking) 1 8 0 1 0 (Local 0) → ⊥
 not_affected x =
-    let pair : Apart 1 8 (NameAt (Local 0)) (root_name 0 x.root) = holds (PairAt 1 8 (NameAt (Local 0)) (root_name 0 x.root)) x.pair in
-    let same : Apart 1 8 (NameAt (Local 0)) (root_name 0 (Arg 0)) = subst (λ (r : Root). Apart 1 8 (NameAt (Local 0)) (root_name 0 r)) (only_argument x.root x.effect) pair in
+    let pair : Apart 1 8 (OfSlot (Local 0)) (root_name 0 x.root) = holds (PairAt 1 8 (OfSlot (Local 0)) (root_name 0 x.root)) x.pair in
+    let same : Apart 1 8 (OfSlot (Local 0)) (root_name 0 (Arg 0)) = subst (λ (r : Root). Apart 1 8 (OfSlot (Local 0)) (root_name 0 r)) (only_argument x.root x.effect) pair in
     absurd (cc (same.sides (lit< tt)))

@@ -8,7 +8,7 @@ use Rattle.ja_facts.specs.Slots.{Slot, Local, OnStack, CallAt, kept_local, kept_
 use Rattle.ja_facts.specs.Actions.{IsEntry}
 use Rattle.ja_facts.specs.ClassSets.{Reached, InSlot, InField, Spans, Takes, CallsLibrary, entry_runs, made as object_made, moved, put, got, selects_library, elsewhere, spans_itself, taker}
 use Rattle.ja_facts.specs.Held.{TokenHolds, FieldHolds, OfBag, holds_bag, of_field}
-use Rattle.ja_facts.specs.Sharing.{PairAt, PairWithin, At as NameAt, keeps_slot, kept, copied as copied_pair, written as written_pair, within, library_ends, live_slot, writes_field, makes_object, stays_slot, ends_normally}
+use Rattle.ja_facts.specs.Sharing.{PairAt, PairWithin, OfSlot, keeps_slot, kept, copied as copied_pair, written as written_pair, within, library_ends, live_slot, writes_field, makes_object, stays_slot, ends_normally}
 use Rattle.ja_facts.specs.Formulas.{Turns, copied, above, made, loaded as read_loaded, loads_field, answered, absorbed, IsNormalEnd}
 use Rattle.ja_facts.specs.Equations.{Context, At, Stored, entry_called, begins, reads_stored_field, held, reads_field, taken, IsWarned}
 use Rattle.ja_facts.specs.Analyses.{Classes, Helds, Heaps, analyses_of}
@@ -193,49 +193,49 @@ field_holds = by_held building (TokenHolds 2 (OfBag 2) ∷ []) (FieldHolds 0 (Of
 
 -- ---- the locals meet the builder on the stack
 
-object_pushed : Heaps building (PairAt 0 5 (NameAt (Local 0)) (NameAt (OnStack 0)))
+object_pushed : Heaps building (PairAt 0 5 (OfSlot (Local 0)) (OfSlot (OnStack 0)))
 object_pushed =
-    by_heap building [] (PairAt 0 5 (NameAt (Local 0)) (NameAt (OnStack 0)))
+    by_heap building [] (PairAt 0 5 (OfSlot (Local 0)) (OfSlot (OnStack 0)))
     (copied_pair (stepped building goes4 reached4) tt (kept_local tt) loaded (λ e. absurd (cc e))) tt
 
-object_under : Heaps building (PairAt 0 6 (NameAt (Local 0)) (NameAt (OnStack 0)))
+object_under : Heaps building (PairAt 0 6 (OfSlot (Local 0)) (OfSlot (OnStack 0)))
 object_under =
-    by_heap building (PairAt 0 5 (NameAt (Local 0)) (NameAt (OnStack 0)) ∷ []) (PairAt 0 6 (NameAt (Local 0)) (NameAt (OnStack 0)))
+    by_heap building (PairAt 0 5 (OfSlot (Local 0)) (OfSlot (OnStack 0)) ∷ []) (PairAt 0 6 (OfSlot (Local 0)) (OfSlot (OnStack 0)))
     (kept (stepped building goes5 reached5) tt (keeps_slot (kept_local tt)) (keeps_slot (kept_stack (lit< tt)))) (object_pushed, tt)
 
-value_pushed : Heaps building (PairAt 0 6 (NameAt (OnStack 1)) (NameAt (Local 1)))
+value_pushed : Heaps building (PairAt 0 6 (OfSlot (OnStack 1)) (OfSlot (Local 1)))
 value_pushed =
-    by_heap building [] (PairAt 0 6 (NameAt (OnStack 1)) (NameAt (Local 1)))
+    by_heap building [] (PairAt 0 6 (OfSlot (OnStack 1)) (OfSlot (Local 1)))
     (copied_pair (stepped building goes5 reached5) tt loaded (kept_local tt) (λ e. absurd (cc e))) tt
 
 -- after the write, the object meets the builder
-object_meets : Heaps building (PairAt 0 7 (NameAt (Local 0)) (NameAt (Local 1)))
+object_meets : Heaps building (PairAt 0 7 (OfSlot (Local 0)) (OfSlot (Local 1)))
 object_meets =
-    by_heap building (PairAt 0 6 (NameAt (Local 0)) (NameAt (OnStack 0)) ∷ PairAt 0 6 (NameAt (OnStack 1)) (NameAt (Local 1)) ∷ []) (PairAt 0 7 (NameAt (Local 0)) (NameAt (Local 1)))
+    by_heap building (PairAt 0 6 (OfSlot (Local 0)) (OfSlot (OnStack 0)) ∷ PairAt 0 6 (OfSlot (OnStack 1)) (OfSlot (Local 1)) ∷ []) (PairAt 0 7 (OfSlot (Local 0)) (OfSlot (Local 1)))
     (written_pair (stepped building goes6 reached6) (writes_field {k = 0} refl) live_slot (keeps_slot (kept_local tt)) (keeps_slot (kept_local tt)))
     (object_under, (value_pushed, tt))
 
-object_builder8 : Heaps building (PairAt 0 8 (NameAt (Local 0)) (NameAt (OnStack 0)))
+object_builder8 : Heaps building (PairAt 0 8 (OfSlot (Local 0)) (OfSlot (OnStack 0)))
 object_builder8 =
-    by_heap building (PairAt 0 7 (NameAt (Local 0)) (NameAt (Local 1)) ∷ []) (PairAt 0 8 (NameAt (Local 0)) (NameAt (OnStack 0)))
+    by_heap building (PairAt 0 7 (OfSlot (Local 0)) (OfSlot (Local 1)) ∷ []) (PairAt 0 8 (OfSlot (Local 0)) (OfSlot (OnStack 0)))
     (kept (stepped building goes7 reached7) tt (keeps_slot (kept_local tt)) (keeps_slot loaded)) (object_meets, tt)
 
-builder_builder8 : Heaps building (PairAt 0 8 (NameAt (Local 1)) (NameAt (OnStack 0)))
+builder_builder8 : Heaps building (PairAt 0 8 (OfSlot (Local 1)) (OfSlot (OnStack 0)))
 builder_builder8 =
-    by_heap building [] (PairAt 0 8 (NameAt (Local 1)) (NameAt (OnStack 0)))
+    by_heap building [] (PairAt 0 8 (OfSlot (Local 1)) (OfSlot (OnStack 0)))
     (copied_pair (stepped building goes7 reached7) tt (kept_local tt) loaded (λ e. absurd (cc e))) tt
 
 -- the source's call leaves pairs as they are
-over_source : (l : ℕ) → Heaps building (PairAt 0 8 (NameAt (Local l)) (NameAt (OnStack 0))) → Heaps building (PairAt 0 9 (NameAt (Local l)) (NameAt (OnStack 0)))
+over_source : (l : ℕ) → Heaps building (PairAt 0 8 (OfSlot (Local l)) (OfSlot (OnStack 0))) → Heaps building (PairAt 0 9 (OfSlot (Local l)) (OfSlot (OnStack 0)))
 over_source l x =
-    by_heap building (PairWithin 0 8 (NameAt (Local l)) (NameAt (OnStack 0)) ∷ []) (PairAt 0 9 (NameAt (Local l)) (NameAt (OnStack 0)))
+    by_heap building (PairWithin 0 8 (OfSlot (Local l)) (OfSlot (OnStack 0)) ∷ []) (PairAt 0 9 (OfSlot (Local l)) (OfSlot (OnStack 0)))
     (library_ends (ends_normally (at_library building at_source reached8 sources) (leads building goes8)) (stays_slot left_local) (stays_slot (left_stack (lit< tt))))
-    (by_heap building (PairAt 0 8 (NameAt (Local l)) (NameAt (OnStack 0)) ∷ []) (PairWithin 0 8 (NameAt (Local l)) (NameAt (OnStack 0))) (within (at_library building at_source reached8 sources)) (x, tt), tt)
+    (by_heap building (PairAt 0 8 (OfSlot (Local l)) (OfSlot (OnStack 0)) ∷ []) (PairWithin 0 8 (OfSlot (Local l)) (OfSlot (OnStack 0))) (within (at_library building at_source reached8 sources)) (x, tt), tt)
 
-pub met : Heaps building (PairAt 0 9 (NameAt (Local 0)) (NameAt (OnStack 0)))
+pub met : Heaps building (PairAt 0 9 (OfSlot (Local 0)) (OfSlot (OnStack 0)))
 met = over_source 0 object_builder8
 
-met_builder : Heaps building (PairAt 0 9 (NameAt (Local 1)) (NameAt (OnStack 0)))
+met_builder : Heaps building (PairAt 0 9 (OfSlot (Local 1)) (OfSlot (OnStack 0)))
 met_builder = over_source 1 builder_builder8
 
 -- ---- taint

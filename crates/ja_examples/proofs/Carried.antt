@@ -9,9 +9,9 @@ use Rattle.ja_facts.specs.Slots.{Slot, Local, OnStack, CallAt, kept_local, kept_
 use Rattle.ja_facts.specs.Actions.{IsEntry}
 use Rattle.ja_facts.specs.ClassSets.{Reached}
 use Rattle.ja_facts.specs.Held.{OfField}
-use Rattle.ja_facts.specs.Sharing.{PairAt, At as NameAt, keeps_slot, live_slot, takes_field, writes_field, makes_object, copied as copied_pair, IsNoCall, stays_slot, ends_normally}
+use Rattle.ja_facts.specs.Sharing.{PairAt, OfSlot, keeps_slot, live_slot, loads_field, writes_field, makes_object, copied as copied_pair, IsNoCall, stays_slot, ends_normally}
 use Rattle.ja_facts.specs.Slots.{Copies}
-use Rattle.ja_facts.specs.Reaching.{ReachAt, ReachWithin, kept, copied as copied_reach, taken_reached, within, library_ends}
+use Rattle.ja_facts.specs.Reaching.{ReachAt, ReachWithin, kept, copied as copied_reach, object_loaded_reached, within, library_ends}
 use Rattle.ja_facts.specs.Formulas.{Turns, copied, above, constant, made, loaded as read_loaded, loads_field, answered, written, IsNormalEnd, CallTurns, call_kept, call_affected, call_above}
 use Rattle.ja_facts.specs.Equations.{Context, At, Normal, Stored, entry_called, called, begins, steps, reads_stored_field, call_resumes, method_ends, stored, stores_field, reads_field, itself, Calls, IsWarned}
 use Rattle.ja_facts.specs.Analyses.{Classes, Reaches, analyses_of}
@@ -53,42 +53,42 @@ f_reached7 = next unlinking f6 f_reached6
 
 -- reachability is kept over an operation that is no call
 over : {m i j : ℕ} {instr : Instr} (a c b d : Slot) → Goes unlinking m i j instr → IsNoCall instr.op → Classes unlinking (Reached m i)
-    → Copies instr.op instr.height a c → Copies instr.op instr.height b d → Reaches unlinking (ReachAt m i (NameAt a) b) → Reaches unlinking (ReachAt m j (NameAt c) d)
+    → Copies instr.op instr.height a c → Copies instr.op instr.height b d → Reaches unlinking (ReachAt m i (OfSlot a) b) → Reaches unlinking (ReachAt m j (OfSlot c) d)
 over {m = m} {i = i} {j = j} a c b d g plain r first second x =
-    by_reach unlinking (ReachAt m i (NameAt a) b ∷ []) (ReachAt m j (NameAt c) d) (kept (stepped unlinking g r) plain (keeps_slot first) second) (x, tt)
+    by_reach unlinking (ReachAt m i (OfSlot a) b ∷ []) (ReachAt m j (OfSlot c) d) (kept (stepped unlinking g r) plain (keeps_slot first) second) (x, tt)
 
 -- a local reaches what is on the stack over the source's call
-over_source : (l : ℕ) → Reaches unlinking (ReachAt 0 4 (NameAt (Local l)) (OnStack 0)) → Reaches unlinking (ReachAt 0 5 (NameAt (Local l)) (OnStack 0))
+over_source : (l : ℕ) → Reaches unlinking (ReachAt 0 4 (OfSlot (Local l)) (OnStack 0)) → Reaches unlinking (ReachAt 0 5 (OfSlot (Local l)) (OnStack 0))
 over_source l x =
-    by_reach unlinking (ReachWithin 0 4 (NameAt (Local l)) (OnStack 0) ∷ []) (ReachAt 0 5 (NameAt (Local l)) (OnStack 0))
+    by_reach unlinking (ReachWithin 0 4 (OfSlot (Local l)) (OnStack 0) ∷ []) (ReachAt 0 5 (OfSlot (Local l)) (OnStack 0))
     (library_ends (ends_normally (at_library unlinking at_source f_reached4 sources) (leads unlinking f4)) (stays_slot left_local) (left_stack (lit< tt)))
-    (by_reach unlinking (ReachAt 0 4 (NameAt (Local l)) (OnStack 0) ∷ []) (ReachWithin 0 4 (NameAt (Local l)) (OnStack 0)) (within (at_library unlinking at_source f_reached4 sources)) (x, tt), tt)
+    (by_reach unlinking (ReachAt 0 4 (OfSlot (Local l)) (OnStack 0) ∷ []) (ReachWithin 0 4 (OfSlot (Local l)) (OnStack 0)) (within (at_library unlinking at_source f_reached4 sources)) (x, tt), tt)
 
 -- the next node itself
-node_reaches : Reaches unlinking (ReachAt 0 5 (NameAt (Local 1)) (OnStack 0))
+node_reaches : Reaches unlinking (ReachAt 0 5 (OfSlot (Local 1)) (OnStack 0))
 node_reaches =
     over_source 1
-    (by_reach unlinking [] (ReachAt 0 4 (NameAt (Local 1)) (OnStack 0)) (copied_reach (stepped unlinking f3 f_reached3) tt (kept_local tt) loaded (λ e. absurd (cc e))) tt)
+    (by_reach unlinking [] (ReachAt 0 4 (OfSlot (Local 1)) (OnStack 0)) (copied_reach (stepped unlinking f3 f_reached3) tt (kept_local tt) loaded (λ e. absurd (cc e))) tt)
 
 -- the argument, from whose field it was read
-next_reached : Reaches unlinking (ReachAt 0 2 (NameAt (Local 0)) (OnStack 0))
+next_reached : Reaches unlinking (ReachAt 0 2 (OfSlot (Local 0)) (OnStack 0))
 next_reached =
-    by_reach unlinking [] (ReachAt 0 2 (NameAt (Local 0)) (OnStack 0))
-    (taken_reached (stepped unlinking f1 f_reached1) (takes_field {k = 0} refl) live_slot
-    (by_heap unlinking [] (PairAt 0 1 (NameAt (Local 0)) (NameAt (OnStack 0))) (copied_pair (stepped unlinking f0 f_reached) tt (kept_local tt) loaded (λ e. absurd (cc e))) tt)
+    by_reach unlinking [] (ReachAt 0 2 (OfSlot (Local 0)) (OnStack 0))
+    (object_loaded_reached (stepped unlinking f1 f_reached1) (loads_field {k = 0} refl) live_slot
+    (by_heap unlinking [] (PairAt 0 1 (OfSlot (Local 0)) (OfSlot (OnStack 0))) (copied_pair (stepped unlinking f0 f_reached) tt (kept_local tt) loaded (λ e. absurd (cc e))) tt)
     (keeps_slot (kept_local tt))) tt
 
-pub argument_reaches : Reaches unlinking (ReachAt 0 5 (NameAt (Local 0)) (OnStack 0))
+pub argument_reaches : Reaches unlinking (ReachAt 0 5 (OfSlot (Local 0)) (OnStack 0))
 argument_reaches =
     over_source 0
     (over (Local 0) (Local 0) (Local 1) (OnStack 0) f3 tt f_reached3 (kept_local tt) loaded
     (over (Local 0) (Local 0) (OnStack 0) (Local 1) f2 tt f_reached2 (kept_local (λ e. absurd (cc e))) (popped refl) next_reached))
 
 -- and the argument reaches itself where it is unlinked
-argument_unlinked : Reaches unlinking (ReachAt 0 8 (NameAt (Local 0)) (OnStack 0))
+argument_unlinked : Reaches unlinking (ReachAt 0 8 (OfSlot (Local 0)) (OnStack 0))
 argument_unlinked =
     over (Local 0) (Local 0) (OnStack 0) (OnStack 0) f7 tt f_reached7 (kept_local tt) (kept_stack (lit< tt))
-    (by_reach unlinking [] (ReachAt 0 7 (NameAt (Local 0)) (OnStack 0)) (copied_reach (stepped unlinking f6 f_reached6) tt (kept_local tt) loaded (λ e. absurd (cc e))) tt)
+    (by_reach unlinking [] (ReachAt 0 7 (OfSlot (Local 0)) (OnStack 0)) (copied_reach (stepped unlinking f6 f_reached6) tt (kept_local tt) loaded (λ e. absurd (cc e))) tt)
 
 -- ---- main up to the call
 

@@ -16,10 +16,10 @@ use Rattle.ja_facts.specs.Slots.{Slot, OnStack}
 use Rattle.ja_facts.specs.Held.{Cell}
 use Rattle.ja_facts.specs.Analyses.{analyses_of}
 use Rattle.ja_facts.specs.Formulas.{Assignment, Summary}
-use Rattle.ja_facts.specs.Equations.{Fact, Context, At, Normal, Threw, Stored, Rule, Reads, reads_static, Stores, stores_field, stores_static, stores_reference, stores_word, stores_pair, initialiser_called, constructor_called, entry_called, called, initialised, begins, steps, reads_stored_field, call_resumes, initialiser_resumes, caught, callee_caught, leaves, callee_leaves, method_returns, method_ends, stored, taken, IsWarned}
+use Rattle.ja_facts.specs.Equations.{Fact, Context, At, Normal, Threw, Stored, Rule, Reads, reads_static, Stores, stores_field, stores_static, stores_reference, stores_word, stores_pair, initializer_called, constructor_called, entry_called, called, initialized, begins, steps, reads_stored_field, call_resumes, initializer_resumes, caught, callee_caught, leaves, callee_leaves, method_returns, method_ends, stored, taken, IsWarned}
 use Rattle.ja_facts.proofs.LeastLaws.{Least-below}
 use Rattle.ja_examples.specs.Library.{sink}
-use Rattle.ja_examples.specs.Initialising.{failing, naming_main, throwing_up, main_site}
+use Rattle.ja_examples.specs.Initializing.{failing, naming_main, throwing_up, main_site}
 use Rattle.ja_examples.proofs.Clean.{outside, lowest_argument}
 use Rattle.ja_examples.proofs.Deriving.{Known}
 use Rattle.ja_examples.proofs.Initless.{of_init}
@@ -138,16 +138,16 @@ no_return (suc zero) i kind o e = of_clinit o
 no_return (suc (suc m)) i kind o e = absurd (cc o.found)
 
 fine_solve : (ps : List Fact) (f : Fact) → Rule failing (analyses_of failing) ps f → Each IsFine ps → IsFine f
-fine_solve _ _ (initialiser_called x is) each = tt
+fine_solve _ _ (initializer_called x is) each = tt
 fine_solve _ _ (constructor_called entry objects cons is) each = tt
 fine_solve _ _ (entry_called entry cells x) each = tt
 fine_solve _ _ (called calls) each = tt
-fine_solve _ _ (initialised x is) each = tt
+fine_solve _ _ (initialized x is) each = tt
 fine_solve _ _ begins each = λ e f. absurd (omega (arith, f))
 fine_solve _ _ (steps {m = m} {i = i} {j = j} o l ends reads) each = λ e f. reads 0 (OnStack 0) (reads_third m i j e o l f)
 fine_solve _ _ (reads_stored_field o l ends reads is answers) each = absurd each.1.0
 fine_solve _ _ (call_resumes {m = m} {i = i} {n = n} calls l ret) each = absurd (calls_none failing quiet m i n calls.goes)
-fine_solve _ _ (initialiser_resumes {n = n} o x is ret) each = absurd (each.1.0 (of_init failing (λ (n : ℕ). n ≡ 1) names_one x))
+fine_solve _ _ (initializer_resumes {n = n} o x is ret) each = absurd (each.1.0 (of_init failing (λ (n : ℕ). n ≡ 1) names_one x))
 fine_solve _ _ (caught {m = m} {i = i} {j = j} {t = t} x goes ends h) each = absurd (no_dest m i t j goes)
 fine_solve _ _ (callee_caught {m = m} {i = i} {j = j} {t = t} calls x goes ends h) each = absurd (no_dest m i t j goes)
 fine_solve _ _ (leaves x goes ends) each = tt

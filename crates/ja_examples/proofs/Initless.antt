@@ -12,7 +12,7 @@ use Rattle.ja_ir.specs.declared.op.CallKind.TheVariants.{Virtual, Special, Stati
 use Rattle.ja_ir.specs.declared.op.Op.{Op}
 use Rattle.ja_ir.specs.declared.op.Op.TheVariants.{New, GetStatic, PutStatic, Call}
 use Rattle.ja_ir.specs.Initializing.{InitAt, inits_of, inits_of_class, inits_of_field, inits_of_method, inits_of_call}
-use Rattle.ja_facts.specs.Actions.{IsInitialiser}
+use Rattle.ja_facts.specs.Actions.{IsInitializer}
 use Rattle.ja_examples.proofs.Listed.{no_item}
 
 -- class initialiser n is in the list
@@ -53,8 +53,8 @@ module _ (p : Parts) (P : ℕ → Type 0) (all : (c n : ℕ) → Contains (inits
   pub of_init : {m i n : ℕ} → InitAt p m i n → P n
   of_init {n = n} x = by_op x.instr.op n x.listed
 
-  pub of_initialiser : {m : ℕ} → IsInitialiser p m → P m
-  of_initialiser {m = m} x = all x.entry.class.0 m x.initialises
+  pub of_initializer : {m : ℕ} → IsInitializer p m → P m
+  of_initializer {m = m} x = all x.entry.class.0 m x.initializes
 
 -- where no class has one, none is run
 module _ (p : Parts) (none : (c : ℕ) → inits_of_class (slice_get p.classes c) ≡ []) where
@@ -64,5 +64,5 @@ module _ (p : Parts) (none : (c : ℕ) → inits_of_class (slice_get p.classes c
   pub no_init : {m i n : ℕ} → InitAt p m i n → ⊥
   no_init x = of_init p (λ n. ⊥) no_name x
 
-  pub no_initialiser : {m : ℕ} → IsInitialiser p m → ⊥
-  no_initialiser x = of_initialiser p (λ n. ⊥) no_name x
+  pub no_initializer : {m : ℕ} → IsInitializer p m → ⊥
+  no_initializer x = of_initializer p (λ n. ⊥) no_name x

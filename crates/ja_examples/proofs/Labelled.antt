@@ -28,7 +28,7 @@ use Rattle.ja_facts.specs.ClassSets.{Reached, CallsLibrary, entry_runs}
 use Rattle.ja_facts.specs.Held.{Cell}
 use Rattle.ja_facts.specs.Analyses.{Analyses, Classes, analyses_of}
 use Rattle.ja_facts.specs.Formulas.{Assignment, Implies, any_below, any_stacked, any_argument, first_argument, flow_by, flow, put_in, put_by, changes, answer_by, answer_of, Turns, copied, above, constant, made, measured, tested, mixed, loaded, static_loaded, written, absorbed, answered}
-use Rattle.ja_facts.specs.Equations.{Fact, Context, At, Normal, Threw, Stored, Rule, MayBeTrue, Stores, stores_field, stores_static, stores_reference, stores_word, stores_pair, initialiser_called, constructor_called, entry_called, called, initialised, begins, steps, reads_stored_field, call_resumes, initialiser_resumes, caught, callee_caught, leaves, callee_leaves, method_returns, method_ends, stored, taken, IsWarned, Taints}
+use Rattle.ja_facts.specs.Equations.{Fact, Context, At, Normal, Threw, Stored, Rule, MayBeTrue, Stores, stores_field, stores_static, stores_reference, stores_word, stores_pair, initializer_called, constructor_called, entry_called, called, initialized, begins, steps, reads_stored_field, call_resumes, initializer_resumes, caught, callee_caught, leaves, callee_leaves, method_returns, method_ends, stored, taken, IsWarned, Taints}
 use Rattle.ja_facts.specs.Example.{nothing}
 use Rattle.ja_facts.proofs.LeastLaws.{Least-below}
 use Rattle.ja_examples.specs.Truth.{only}
@@ -196,16 +196,16 @@ IsFalse (Threw m a s) = Unit {0}
 IsFalse (Stored c) = ⊥
 
 false_solve : (ps : List Fact) (f : Fact) → Rule sql (analyses_of labelling) ps f → Each IsFalse ps → IsFalse f
-false_solve _ _ (initialiser_called x is) each = is.slots
+false_solve _ _ (initializer_called x is) each = is.slots
 false_solve _ _ (constructor_called entry objects cons is) each = is.slots
 false_solve _ _ (entry_called {a = a} entry cells x) each = λ z. entry_false entry x.method cells z x.is_entry (a.slot z) (x.parameters z)
 false_solve _ _ (called {m = m} {i = i} {n = n} calls) each = absurd (calls_none labelling quiet m i n calls.goes)
-false_solve _ _ (initialised x is) each = is.slots
+false_solve _ _ (initialized x is) each = is.slots
 false_solve _ _ begins each = each.0
 false_solve _ _ (steps {m = m} {i = i} {b = b} o l ends reads) each = λ y. turns_false b each.0 (tame b each.0 ends.instr.op (calm_at m i ends.instr ends.found)) (ends.slots y)
 false_solve _ _ (reads_stored_field o l ends reads is answers) each = absurd each.1.0
 false_solve _ _ (call_resumes {m = m} {i = i} {n = n} calls l ret) each = absurd (calls_none labelling quiet m i n calls.goes)
-false_solve _ _ (initialiser_resumes o x is ret) each = absurd (no_init sql no_inits x)
+false_solve _ _ (initializer_resumes o x is ret) each = absurd (no_init sql no_inits x)
 false_solve _ _ (caught {m = m} {i = i} {j = j} {t = t} x goes ends h) each = absurd (no_dest m i t j goes)
 false_solve _ _ (callee_caught {m = m} {i = i} {j = j} {t = t} calls x goes ends h) each = absurd (no_dest m i t j goes)
 false_solve _ _ (leaves x goes ends) each = tt

@@ -15,7 +15,7 @@ pub mod Stored
 pub mod Clean
 pub mod Initless
 pub mod Quiet
-pub mod Initialised
+pub mod Initialized
 pub mod Rested
 pub mod Failed
 pub mod Labelled

@@ -18,7 +18,7 @@ use Rattle.ja_facts.specs.ClassSets.{Fact as ClassFact, Reached, InEnv, InSlot, 
 use Rattle.ja_facts.specs.ClassSets.{begins as begins_slot, moved, text_made, made as object_made, array_made, got, got_static, put, put_static, text_field, element_got, handled, handler_keeps, found_method, selects_method, by_static, by_special, answered as call_answered, library_fresh, library_argument, library_member}
 use Rattle.ja_facts.specs.Held.{Fact as HeldFact, TokenHolds, FieldHolds, Cell, OfField, holds_field, holds_bag, of_field, Rule as HeldRule}
 use Rattle.ja_facts.specs.Formulas.{Assignment, IsNormalEnd}
-use Rattle.ja_facts.specs.Equations.{Fact, Context, At, Normal, Threw, Stored, initialiser_called, constructor_called, entry_called, called, initialised, begins, steps, reads_stored_field, call_resumes, initialiser_resumes, caught, callee_caught, leaves, callee_leaves, method_returns, method_ends, stored, taken, Reads, reads_field, reads_static, itself, held, stores_field, stores_static, stores_reference, stores_word, stores_pair, IsWarned, Answers, Rule, Taints}
+use Rattle.ja_facts.specs.Equations.{Fact, Context, At, Normal, Threw, Stored, initializer_called, constructor_called, entry_called, called, initialized, begins, steps, reads_stored_field, call_resumes, initializer_resumes, caught, callee_caught, leaves, callee_leaves, method_returns, method_ends, stored, taken, Reads, reads_field, reads_static, itself, held, stores_field, stores_static, stores_reference, stores_word, stores_pair, IsWarned, Answers, Rule, Taints}
 use Rattle.ja_facts.specs.Verdict.{AreVerdicts}
 use Rattle.ja_facts.proofs.LeastLaws.{Least-below}
 use Rattle.ja_facts.specs.Analyses.{Classes, Helds, analyses_of}
@@ -242,11 +242,11 @@ same_cell : (f : ℕ) → OfField f ≡ OfField 1 → f ≡ 1
 same_cell f e = cc e
 
 clean_solve : (ps : List Fact) (f : Fact) → Rule parting (analyses_of parting) ps f → Each IsClean ps → IsClean f
-clean_solve _ _ (initialiser_called x is) each = tt
+clean_solve _ _ (initializer_called x is) each = tt
 clean_solve _ _ (constructor_called entry objects cons is) each = tt
 clean_solve _ _ (entry_called entry cells x) each = tt
 clean_solve _ _ (called x) each = tt
-clean_solve _ _ (initialised x is) each = tt
+clean_solve _ _ (initialized x is) each = tt
 clean_solve _ _ begins each = (λ e. absurd (omega (arith, e)), λ e. absurd (omega (arith, e)))
 clean_solve _ _ (steps {m = m} {i = i} {j = j} {b = b} {after = after} o l ends reads) each =
     (after_text m i j b after l ends, λ e. reads 1 (OnStack 0) (reads_second m i j o l e))
@@ -257,7 +257,7 @@ clean_solve _ _ (reads_stored_field {m = m} {i = i} {j = j} {b = b} {after = aft
     no_answer e itself clean = clean (ap OfField e)
     no_answer {cell = cell} e (held h) clean = holds_nothing cell (subst (λ (g : ℕ). Helds parting (FieldHolds g cell)) e h)
 clean_solve _ _ (call_resumes {m = m} {i = i} {n = n} calls l h) each = absurd (has_texts (CallsMethod m i n) calls.goes)
-clean_solve _ _ (initialiser_resumes o x is h) each = absurd (no_init parting no_inits x)
+clean_solve _ _ (initializer_resumes o x is h) each = absurd (no_init parting no_inits x)
 clean_solve _ _ (caught {m = m} {i = i} {j = j} {t = t} x goes ends h) each = absurd (no_dest m i t j goes)
 clean_solve _ _ (callee_caught {m = m} {i = i} {n = n} calls x goes ends h) each = absurd (has_texts (CallsMethod m i n) calls.goes)
 clean_solve _ _ (leaves x goes ends) each = tt

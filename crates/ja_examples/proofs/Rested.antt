@@ -14,14 +14,14 @@ use Rattle.ja_ir.specs.Initializing.{InitAt, inits_of, inits_of_class}
 use Rattle.ja_ir.specs.Examples.{at}
 use Rattle.ja_facts.specs.Least.{Each}
 use Rattle.ja_facts.specs.Slots.{Slot, OnStack}
-use Rattle.ja_facts.specs.Actions.{IsInitialiser, HasObjects}
-use Rattle.ja_facts.specs.ClassSets.{Fact as ClassFact, Reached, InEnv, InSlot, InThrown, InParam, InResult, InOut, InField, InBag, CallsMethod, CallsAbstract, CallsLibrary, Spans, Takes, Rule as ClassRule, initialiser_runs, constructor_runs, entry_runs, next_reached, initialises, handler_reached, callee_reached}
+use Rattle.ja_facts.specs.Actions.{IsInitializer, HasObjects}
+use Rattle.ja_facts.specs.ClassSets.{Fact as ClassFact, Reached, InEnv, InSlot, InThrown, InParam, InResult, InOut, InField, InBag, CallsMethod, CallsAbstract, CallsLibrary, Spans, Takes, Rule as ClassRule, initializer_runs, constructor_runs, entry_runs, next_reached, initializes, handler_reached, callee_reached}
 use Rattle.ja_facts.specs.Held.{Cell}
 use Rattle.ja_facts.specs.Analyses.{Classes, analyses_of}
-use Rattle.ja_facts.specs.Equations.{Fact, Context, At, Normal, Threw, Stored, Rule, Reads, reads_static, Stores, stores_field, stores_static, stores_reference, stores_word, stores_pair, initialiser_called, constructor_called, entry_called, called, initialised, begins, steps, reads_stored_field, call_resumes, initialiser_resumes, caught, callee_caught, leaves, callee_leaves, method_returns, method_ends, stored, taken, IsWarned}
+use Rattle.ja_facts.specs.Equations.{Fact, Context, At, Normal, Threw, Stored, Rule, Reads, reads_static, Stores, stores_field, stores_static, stores_reference, stores_word, stores_pair, initializer_called, constructor_called, entry_called, called, initialized, begins, steps, reads_stored_field, call_resumes, initializer_resumes, caught, callee_caught, leaves, callee_leaves, method_returns, method_ends, stored, taken, IsWarned}
 use Rattle.ja_facts.proofs.LeastLaws.{Least-below}
 use Rattle.ja_examples.specs.Library.{sink}
-use Rattle.ja_examples.specs.Initialising.{resting, plain_main, filling, main_entry, main_site}
+use Rattle.ja_examples.specs.Initializing.{resting, plain_main, filling, main_entry, main_site}
 use Rattle.ja_examples.proofs.Clean.{outside, lowest_argument}
 use Rattle.ja_examples.proofs.Deriving.{Known}
 use Rattle.ja_examples.proofs.Listed.{AllFrom, all_at, no_item, next_of}
@@ -81,10 +81,10 @@ the_entry entry (zero, below, e) = e
 the_entry entry (suc k, below, e) = absurd (omega (arith, below))
 
 -- the environment initialises nothing, and makes no object
-no_first : {m : ℕ} → IsInitialiser resting m → ⊥
+no_first : {m : ℕ} → IsInitializer resting m → ⊥
 no_first {m = m} x =
     no_item (record { 0 = m })
-    (subst (λ (entry : Entry). Contains (inits_of_class (slice_get resting.classes entry.class.0)) (record { 0 = m })) (sym (the_entry x.entry x.listed)) x.initialises)
+    (subst (λ (entry : Entry). Contains (inits_of_class (slice_get resting.classes entry.class.0)) (record { 0 = m })) (sym (the_entry x.entry x.listed)) x.initializes)
 
 no_objects : (entry : Entry) → HasObjects resting entry → ⊥
 no_objects entry objects =
@@ -106,11 +106,11 @@ OnlyMain (CallsMethod m i n) = ⊥
 OnlyMain _ = Unit {0}
 
 in_main : {ps : List ClassFact} (m i : ℕ) → ClassRule resting ps (Reached m i) → Each OnlyMain ps → m ≡ 0
-in_main m i (initialiser_runs x) each = absurd (no_first x)
+in_main m i (initializer_runs x) each = absurd (no_first x)
 in_main m i (constructor_runs entry objects cons) each = absurd (no_objects entry objects)
 in_main m i (entry_runs entry listed) each = sym (ap (λ (e : Entry). e.method.0) (the_entry entry listed))
 in_main m i (next_reached l) each = each.0
-in_main m i (initialises {m = k} x) each = absurd (no_named k x)
+in_main m i (initializes {m = k} x) each = absurd (no_named k x)
 in_main m i (handler_reached goes) each = each.0
 in_main m i callee_reached each = absurd each.1.0
 
@@ -172,16 +172,16 @@ no_store m i {op = op} {height = height} e o s =
     none ok (stores_pair h) = ok
 
 fine_solve : (ps : List Fact) (f : Fact) → Rule resting (analyses_of resting) ps f → Each IsFine ps → IsFine f
-fine_solve _ _ (initialiser_called x is) each = absurd (no_first x)
+fine_solve _ _ (initializer_called x is) each = absurd (no_first x)
 fine_solve _ _ (constructor_called entry objects cons is) each = absurd (no_objects entry objects)
 fine_solve _ _ (entry_called entry cells x) each = sym (ap (λ (e : Entry). e.method.0) (the_entry entry x.is_entry.listed))
 fine_solve _ _ (called {m = m} {i = i} {n = n} calls) each = absurd (calls_none resting quiet m i n calls.goes)
-fine_solve _ _ (initialised {m = m} x is) each = absurd (no_named m x)
+fine_solve _ _ (initialized {m = m} x is) each = absurd (no_named m x)
 fine_solve _ _ begins each = (each.0, λ e. absurd (cc e))
 fine_solve _ _ (steps {m = m} {i = i} {j = j} o l ends reads) each = (each.0.0, λ e. reads 0 (OnStack 0) (reads_first m i j each.0.0 o l e))
 fine_solve _ _ (reads_stored_field o l ends reads is answers) each = absurd each.1.0
 fine_solve _ _ (call_resumes {m = m} {i = i} {n = n} calls l ret) each = absurd (calls_none resting quiet m i n calls.goes)
-fine_solve _ _ (initialiser_resumes {m = m} o x is ret) each = absurd (no_named m x)
+fine_solve _ _ (initializer_resumes {m = m} o x is ret) each = absurd (no_named m x)
 fine_solve _ _ (caught {m = m} {i = i} {j = j} {t = t} x goes ends h) each = absurd (no_dest m i t j goes)
 fine_solve _ _ (callee_caught {m = m} {i = i} {j = j} {t = t} calls x goes ends h) each = absurd (no_dest m i t j goes)
 fine_solve _ _ (leaves x goes ends) each = tt

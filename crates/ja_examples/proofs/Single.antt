@@ -19,7 +19,7 @@ use Rattle.ja_facts.specs.Slots.{Slot, OnStack, CallAt, IsLeft, left_local, left
 use Rattle.ja_facts.specs.ClassSets.{Fact as ClassFact, Reached, InEnv, InSlot, InThrown, InParam, InResult, InOut, InField, InBag, CallsMethod, CallsAbstract, CallsLibrary, Spans, Takes, Dispatches, IsClass, Finds, Rule as ClassRule}
 use Rattle.ja_facts.specs.ClassSets.{begins as begins_slot, moved, text_made, made as object_made, array_made, got, got_static, element_got, handled, handler_keeps, found_method, found_library, selects_method, selects_library, selected, elsewhere, by_static, by_special, in_static_field, in_member_field, answered as call_answers, library_fresh, library_argument, library_member}
 use Rattle.ja_facts.specs.Formulas.{Assignment, Summary, IsNormalEnd, IsLibraryPart, CallTurns, call_kept, call_affected, call_answered, call_above}
-use Rattle.ja_facts.specs.Equations.{Fact, Context, At, Normal, Threw, Stored, initialiser_called, constructor_called, entry_called, called, initialised, begins, steps, reads_stored_field, call_resumes, initialiser_resumes, caught, callee_caught, leaves, callee_leaves, method_returns, method_ends, stored, taken, IsWarned, Rule}
+use Rattle.ja_facts.specs.Equations.{Fact, Context, At, Normal, Threw, Stored, initializer_called, constructor_called, entry_called, called, initialized, begins, steps, reads_stored_field, call_resumes, initializer_resumes, caught, callee_caught, leaves, callee_leaves, method_returns, method_ends, stored, taken, IsWarned, Rule}
 use Rattle.ja_facts.proofs.LeastLaws.{Least-below}
 use Rattle.ja_facts.specs.Analyses.{Classes, analyses_of}
 use Rattle.ja_examples.specs.Library.{sink}
@@ -266,17 +266,17 @@ no_inits (suc (suc zero)) = refl
 no_inits (suc (suc (suc c))) = refl
 
 clean_solve : (ps : List Fact) (f : Fact) → Rule choosing (analyses_of choosing) ps f → Each IsClean ps → IsClean f
-clean_solve _ _ (initialiser_called x is) each = tt
+clean_solve _ _ (initializer_called x is) each = tt
 clean_solve _ _ (constructor_called entry objects cons is) each = tt
 clean_solve _ _ (entry_called entry cells x) each = tt
 clean_solve _ _ (called x) each = tt
-clean_solve _ _ (initialised x is) each = tt
+clean_solve _ _ (initialized x is) each = tt
 clean_solve _ _ begins each = (λ e f. absurd (omega (arith, f)), λ e f. absurd (omega (arith, f)))
 clean_solve _ _ (steps {m = m} {i = i} {j = j} {b = b} {after = after} o l ends reads) each =
     (after_text m i j b after l ends, λ e f. absurd (no_part m i j b after l ends e f))
 clean_solve _ _ (reads_stored_field {m = m} {i = i} {j = j} {b = b} {after = after} o l ends reads true_one answers) each =
     (after_text m i j b after l ends, λ e f. absurd (no_part m i j b after l ends e f))
-clean_solve _ _ (initialiser_resumes o x is h) each = absurd (no_init choosing no_inits x)
+clean_solve _ _ (initializer_resumes o x is h) each = absurd (no_init choosing no_inits x)
 clean_solve _ _ (call_resumes {m = m} {i = i} {j = j} {n = n} {under = under} {call = call} {b = b} {after = after} {s = s} calls l ret) each = (
   λ e f. absurd ((class_fact (CallsMethod m i n) calls.goes).1 e),
   λ e f.

@@ -7,7 +7,7 @@ use Rattle.ja_facts.specs.Slots.{Slot, Local, OnStack, CallAt, kept_local, kept_
 use Rattle.ja_facts.specs.Actions.{IsEntry}
 use Rattle.ja_facts.specs.ClassSets.{Reached, InSlot, InBag, CallsLibrary, entry_runs, element_put, element_got, library_fresh}
 use Rattle.ja_facts.specs.Held.{OfBag}
-use Rattle.ja_facts.specs.Sharing.{At as NameAt, keeps_slot, makes_array, writes_element, stays_slot, ends_normally}
+use Rattle.ja_facts.specs.Sharing.{OfSlot, keeps_slot, makes_array, writes_element, stays_slot, ends_normally}
 use Rattle.ja_facts.specs.Reaching.{ReachAt, ReachWithin, kept, copied as copied_reach, within, library_ends}
 use Rattle.ja_facts.specs.Formulas.{Turns, copied, above, constant, made, loaded as read_loaded, loads_element, answered, written}
 use Rattle.ja_facts.specs.Equations.{Context, At, Stored, entry_called, begins, stored, stores_reference, IsWarned}
@@ -88,14 +88,14 @@ pub element_read : Classes elements (InSlot 0 10 (OnStack 0) 1)
 element_read = by_class elements (Reached 0 9 ∷ InBag 3 1 ∷ []) (InSlot 0 10 (OnStack 0) 1) (element_got (op_at elements goes9) (leads elements goes9)) (reached9, (in_bag, tt))
 
 -- the local reaches the array on the stack
-array_reaches : Reaches elements (ReachAt 0 6 (NameAt (Local 0)) (OnStack 0))
+array_reaches : Reaches elements (ReachAt 0 6 (OfSlot (Local 0)) (OnStack 0))
 array_reaches =
-    by_reach elements (ReachWithin 0 5 (NameAt (Local 0)) (OnStack 0) ∷ []) (ReachAt 0 6 (NameAt (Local 0)) (OnStack 0))
+    by_reach elements (ReachWithin 0 5 (OfSlot (Local 0)) (OnStack 0) ∷ []) (ReachAt 0 6 (OfSlot (Local 0)) (OnStack 0))
     (library_ends (ends_normally (at_library elements at_source reached5 sources) (leads elements goes5)) (stays_slot left_local) (left_stack (lit< tt))) (
-      by_reach elements (ReachAt 0 5 (NameAt (Local 0)) (OnStack 0) ∷ []) (ReachWithin 0 5 (NameAt (Local 0)) (OnStack 0)) (within (at_library elements at_source reached5 sources)) (
-        by_reach elements (ReachAt 0 4 (NameAt (Local 0)) (OnStack 0) ∷ []) (ReachAt 0 5 (NameAt (Local 0)) (OnStack 0))
+      by_reach elements (ReachAt 0 5 (OfSlot (Local 0)) (OnStack 0) ∷ []) (ReachWithin 0 5 (OfSlot (Local 0)) (OnStack 0)) (within (at_library elements at_source reached5 sources)) (
+        by_reach elements (ReachAt 0 4 (OfSlot (Local 0)) (OnStack 0) ∷ []) (ReachAt 0 5 (OfSlot (Local 0)) (OnStack 0))
             (kept (stepped elements goes4 reached4) tt (keeps_slot (kept_local tt)) (kept_stack (lit< tt)))
-            (by_reach elements [] (ReachAt 0 4 (NameAt (Local 0)) (OnStack 0)) (copied_reach (stepped elements goes3 reached3) tt (kept_local tt) loaded (λ e. absurd (cc e))) tt, tt),
+            (by_reach elements [] (ReachAt 0 4 (OfSlot (Local 0)) (OnStack 0)) (copied_reach (stepped elements goes3 reached3) tt (kept_local tt) loaded (λ e. absurd (cc e))) tt, tt),
         tt,
       ),
       tt,

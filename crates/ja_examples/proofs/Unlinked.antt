@@ -6,7 +6,7 @@ use Rattle.ja_ir.specs.declared.method.Instr.{Instr}
 use Rattle.ja_ir.specs.Examples.{at}
 use Rattle.ja_facts.specs.Slots.{Local, OnStack, CallAt, kept_local, kept_stack, loaded, stored, left_stack}
 use Rattle.ja_facts.specs.ClassSets.{Reached, CallsLibrary, CallsMethod, entry_runs}
-use Rattle.ja_facts.specs.Sharing.{PairAt, PairWithin, Effect, Arg, Name, At as NameAt, Old, Keeps, keeps_slot, keeps_old, kept, copied, made, makes_object, taken, takes_field, written, writes_field, live_slot, turned, within, library_ends, entered_begins_old, written_effect, IsNoCall, stays_slot, stays_old, ends_normally}
+use Rattle.ja_facts.specs.Sharing.{PairAt, PairWithin, Effect, Arg, Name, OfSlot, Old, Keeps, keeps_slot, keeps_old, kept, copied, made, makes_object, object_loaded, loads_field, written, writes_field, live_slot, turned, within, library_ends, entered_begins_old, written_effect, IsNoCall, stays_slot, stays_old, ends_normally}
 use Rattle.ja_facts.specs.Formulas.{IsAffected}
 use Rattle.ja_facts.specs.Analyses.{Classes, Heaps, analyses_of}
 use Rattle.ja_examples.specs.Library.{source}
@@ -123,10 +123,10 @@ over {m = m} {i = i} {j = j} a b c d g plain r first second x =
     by_heap unlinking (PairAt m i a b ∷ []) (PairAt m j c d) (kept (stepped unlinking g r) plain first second) (x, tt)
 
 abbrev l1 : Name
-l1 = NameAt (Local 1)
+l1 = OfSlot (Local 1)
 
 abbrev s0 : Name
-s0 = NameAt (OnStack 0)
+s0 = OfSlot (OnStack 0)
 
 -- the first node meets itself where f is called
 first_made : Heaps unlinking (PairAt 1 1 s0 s0)
@@ -153,18 +153,18 @@ argument_meets = over l1 l1 s0 s0 main7 tt reached7 (keeps_slot loaded) (keeps_s
 abbrev old : Name
 old = Old (Arg 0)
 
-parameter_old : Heaps unlinking (PairAt 0 0 (NameAt (Local 0)) old)
+parameter_old : Heaps unlinking (PairAt 0 0 (OfSlot (Local 0)) old)
 parameter_old =
-    by_heap unlinking (PairAt 1 8 s0 s0 ∷ []) (PairAt 0 0 (NameAt (Local 0)) old)
+    by_heap unlinking (PairAt 1 8 s0 s0 ∷ []) (PairAt 0 0 (OfSlot (Local 0)) old)
     (entered_begins_old unlinking_f (Arg 0) (Arg 0) (by_call reached8 calls_f at_unlink) refl (lit< tt) (lit< tt)) (argument_meets, tt)
 
 pushed_old : Heaps unlinking (PairAt 0 1 s0 old)
-pushed_old = over (NameAt (Local 0)) old s0 old f0 tt f_reached (keeps_slot loaded) keeps_old parameter_old
+pushed_old = over (OfSlot (Local 0)) old s0 old f0 tt f_reached (keeps_slot loaded) keeps_old parameter_old
 
 next_old : Heaps unlinking (PairAt 0 2 s0 old)
 next_old =
     by_heap unlinking (PairAt 0 1 s0 old ∷ []) (PairAt 0 2 s0 old)
-    (taken (stepped unlinking f1 f_reached1) (takes_field {k = 0} refl) keeps_old) (pushed_old, tt)
+    (object_loaded (stepped unlinking f1 f_reached1) (loads_field {k = 0} refl) keeps_old) (pushed_old, tt)
 
 node_old : Heaps unlinking (PairAt 0 4 s0 old)
 node_old =
@@ -187,21 +187,21 @@ first_under =
     over l1 s0 l1 s0 main5 tt reached5 (keeps_slot (kept_local tt)) (keeps_slot (kept_stack (lit< tt)))
     (by_heap unlinking [] (PairAt 1 5 l1 s0) (copied (stepped unlinking main4 reached4) tt (kept_local tt) loaded (λ e. absurd (cc e))) tt)
 
-second_value : Heaps unlinking (PairAt 1 6 (NameAt (OnStack 1)) (NameAt (Local 2)))
+second_value : Heaps unlinking (PairAt 1 6 (OfSlot (OnStack 1)) (OfSlot (Local 2)))
 second_value =
-    by_heap unlinking [] (PairAt 1 6 (NameAt (OnStack 1)) (NameAt (Local 2)))
+    by_heap unlinking [] (PairAt 1 6 (OfSlot (OnStack 1)) (OfSlot (Local 2)))
     (copied (stepped unlinking main5 reached5) tt loaded (kept_local tt) (λ e. absurd (cc e))) tt
 
-linked : Heaps unlinking (PairAt 1 7 l1 (NameAt (Local 2)))
+linked : Heaps unlinking (PairAt 1 7 l1 (OfSlot (Local 2)))
 linked =
-    by_heap unlinking (PairAt 1 6 l1 s0 ∷ PairAt 1 6 (NameAt (OnStack 1)) (NameAt (Local 2)) ∷ []) (PairAt 1 7 l1 (NameAt (Local 2)))
+    by_heap unlinking (PairAt 1 6 l1 s0 ∷ PairAt 1 6 (OfSlot (OnStack 1)) (OfSlot (Local 2)) ∷ []) (PairAt 1 7 l1 (OfSlot (Local 2)))
     (written (stepped unlinking main6 reached6) (writes_field {k = 0} refl) live_slot (keeps_slot (kept_local tt)) (keeps_slot (kept_local tt)))
     (first_under, (second_value, tt))
 
-second_meets : Heaps unlinking (PairAt 1 8 (NameAt (Local 2)) s0)
+second_meets : Heaps unlinking (PairAt 1 8 (OfSlot (Local 2)) s0)
 second_meets =
-    over (NameAt (Local 2)) l1 (NameAt (Local 2)) s0 main7 tt reached7 (keeps_slot (kept_local tt)) (keeps_slot loaded)
-    (by_heap unlinking (PairAt 1 7 l1 (NameAt (Local 2)) ∷ []) (PairAt 1 7 (NameAt (Local 2)) l1) turned (linked, tt))
+    over (OfSlot (Local 2)) l1 (OfSlot (Local 2)) s0 main7 tt reached7 (keeps_slot (kept_local tt)) (keeps_slot loaded)
+    (by_heap unlinking (PairAt 1 7 l1 (OfSlot (Local 2)) ∷ []) (PairAt 1 7 (OfSlot (Local 2)) l1) turned (linked, tt))
 
 pub affected : IsAffected (analyses_of unlinking) 1 8 0 1 0 (Local 2)
 affected = record { root = Arg 0; is_root = lit< tt; effect = changes_argument; pair = second_meets }

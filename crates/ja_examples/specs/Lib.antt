@@ -8,6 +8,6 @@ pub mod Parting
 pub mod Entering
 pub mod Choosing
 pub mod Elements
-pub mod Initialising
+pub mod Initializing
 pub mod Labelling
 pub mod Runs

@@ -12,7 +12,7 @@ use Rattle.ja_examples.specs.Entering.{entering}
 use Rattle.ja_examples.specs.Unlinking.{unlinking}
 use Rattle.ja_examples.specs.Choosing.{choosing}
 use Rattle.ja_examples.specs.Elements.{elements}
-use Rattle.ja_examples.specs.Initialising.{initialising, resting, failing}
+use Rattle.ja_examples.specs.Initializing.{initializing, resting, failing}
 use Rattle.ja_examples.specs.Labelling.{labelling}
 
 -- the run is over, since a class initialiser threw
@@ -34,10 +34,10 @@ pub record ProgramsRun : Type 0 where
   pub single_subclass : events_of (program_run choosing (CallEntry 1 [] 20 [] ∷ [])) ≡ record { site = 1; positions = [] } ∷ []
   -- K is initialised before its field is read, or not; nothing initialises it where it is not named; and where its initialiser throws the
   -- run is over
-  pub initialised_class : events_of (program_run initialising (CallEntry 0 [] 20 (1 ∷ []) ∷ [])) ≡ tainted_event
-  pub class_not_initialised : events_of (program_run initialising (CallEntry 0 [] 20 [] ∷ [])) ≡ clean_event
+  pub initialized_class : events_of (program_run initializing (CallEntry 0 [] 20 (1 ∷ []) ∷ [])) ≡ tainted_event
+  pub class_not_initialized : events_of (program_run initializing (CallEntry 0 [] 20 [] ∷ [])) ≡ clean_event
   pub class_not_named : events_of (program_run resting (CallEntry 0 [] 20 (1 ∷ []) ∷ [])) ≡ clean_event
-  pub failed_initialiser : has_failed (program_run failing (CallEntry 0 [] 20 (1 ∷ []) ∷ [])) ≡ true
+  pub failed_initializer : has_failed (program_run failing (CallEntry 0 [] 20 (1 ∷ []) ∷ [])) ≡ true
   pub nothing_after_it : events_of (program_run failing (CallEntry 0 [] 20 (1 ∷ []) ∷ CallEntry 0 [] 20 [] ∷ [])) ≡ []
   -- the text is tainted at the sink for pages alone
   pub labelled_text : events_of (program_run labelling (CallEntry 0 [] 20 [] ∷ [])) ≡ record { site = 0; positions = [] } ∷ record { site = 1; positions = 0 ∷ [] } ∷ []

@@ -2,7 +2,7 @@ ghost use Rattle.std.specs.Prelude.{[], ◌∷◌, ◌≡◌, ◌↔◌, ℕ, tr
 ghost use Rattle.ja_facts.specs.Slots.{Local, OnStack};
 ghost use Rattle.ja_facts.specs.ClassSets.{CallsMethod, InSlot, Reached};
 ghost use Rattle.ja_facts.specs.Held.{Cell, OfBag, OfField, FieldHolds};
-ghost use Rattle.ja_facts.specs.Sharing.{PairAt, Effect, Root, Arg, Fields, At as NameAt};
+ghost use Rattle.ja_facts.specs.Sharing.{PairAt, Effect, Root, Arg, StaticFields, OfSlot};
 ghost use Rattle.ja_facts.specs.Reaching.{ReachAt};
 ghost use Rattle.ja_facts.specs.Formulas.{Assignment, IsAffected, Summary};
 ghost use Rattle.ja_facts.specs.Equations.{At, Context, Normal, Threw, Stored, IsWarned, Taints};
@@ -18,7 +18,7 @@ ghost use Rattle.ja_examples.specs.Parting.{parting};
 ghost use Rattle.ja_examples.specs.Entering.{entering, entered_site};
 ghost use Rattle.ja_examples.specs.Choosing.{choosing};
 ghost use Rattle.ja_examples.specs.Elements.{elements, element_site};
-ghost use Rattle.ja_examples.specs.Initialising.{initialising, resting, failing};
+ghost use Rattle.ja_examples.specs.Initializing.{initializing, resting, failing};
 ghost use Rattle.ja_examples.specs.Labelling.{labelling, labelling_report};
 ghost use Rattle.ja_examples.specs.Runs.{ProgramsRun};
 
@@ -48,7 +48,7 @@ pub fn law_throwing()
 /// whose field refers to it, and answers the builder; what is read of the field is tainted, and the sink
 /// call is warned.
 pub fn law_building()
-    ensures met { Heaps building (PairAt 0 9 (NameAt (Local 0)) (NameAt (OnStack 0))) }
+    ensures met { Heaps building (PairAt 0 9 (OfSlot (Local 0)) (OfSlot (OnStack 0))) }
     ensures stored { Taints building 0 (Stored (OfBag 2)) }
     ensures held { (c : Cell) → Helds building (FieldHolds 0 c) ↔ (c ≡ OfBag 2) }
     ensures appended { Taints building 0 (At 0 10 nothing (dirty (Local 0 ∷ Local 1 ∷ OnStack 0 ∷ []))) }
@@ -65,7 +65,7 @@ pub fn law_unlinking()
     ensures effects { (r : Root) → Heaps unlinking (Effect 0 r) ↔ (r ≡ Arg 0) }
     ensures affected { IsAffected (analyses_of unlinking) 1 8 0 1 0 (Local 2) }
     ensures not_affected { IsAffected (analyses_of unlinking) 1 8 0 1 0 (Local 0) → ⊥ }
-    ensures reaches { Reaches unlinking (ReachAt 0 5 (NameAt (Local 0)) (OnStack 0)) }
+    ensures reaches { Reaches unlinking (ReachAt 0 5 (OfSlot (Local 0)) (OnStack 0)) }
     ensures written { Taints unlinking 0 (At 0 6 nothing (dirty (Local 0 ∷ Local 1 ∷ []))) }
     ensures returned { Taints unlinking 0 (Normal 0 nothing stored_taint) }
     ensures goes_on { Taints unlinking 0 (At 1 9 nothing (dirty (Local 2 ∷ []))) }
@@ -111,13 +111,13 @@ pub fn law_elements()
 /// A class initialiser runs before an instruction that names its class: it is reached, called with
 /// nothing true, and returns; what it stored is read, and the sink call is warned. Its effect on the
 /// static fields is one of the method that it comes into.
-pub fn law_initialising()
-    ensures reached { Classes initialising (Reached 1 0) }
-    ensures effect { Heaps initialising (Effect 0 Fields) }
-    ensures called { Taints initialising 0 (Context 1 nothing) }
-    ensures returned { Taints initialising 0 (Normal 1 nothing clean_return) }
-    ensures stored { Taints initialising 0 (Stored (OfField 0)) }
-    ensures verdicts { AreVerdicts initialising (Taints initialising) (true ∷ []) }
+pub fn law_initializing()
+    ensures reached { Classes initializing (Reached 1 0) }
+    ensures effect { Heaps initializing (Effect 0 StaticFields) }
+    ensures called { Taints initializing 0 (Context 1 nothing) }
+    ensures returned { Taints initializing 0 (Normal 1 nothing clean_return) }
+    ensures stored { Taints initializing 0 (Stored (OfField 0)) }
+    ensures verdicts { AreVerdicts initializing (Taints initializing) (true ∷ []) }
 {}
 
 /// The class initialiser of a class that nothing names is not reached, and the sink call that reads what

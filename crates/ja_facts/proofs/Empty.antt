@@ -16,7 +16,7 @@ use Rattle.ja_facts.specs.declared.targets.Targets.{Targets}
 use Rattle.ja_facts.specs.ClassSets.{Fact as ClassFact, Reached, InEnv, InSlot, InThrown, InParam, InResult, InOut, InField, InBag, CallsMethod, CallsAbstract, CallsLibrary, Spans, Takes}
 use Rattle.ja_facts.specs.Told.{LeadsBy, leads_itself, leads_by_field, leads_by_bag, TellsSets, TellsGraph, TellsHeld, TellsHeap, TellsReach, PairHas, WithinHas, within_before, within_absorbed, within_turned, cell_number}
 use Rattle.ja_facts.specs.Held.{Fact as HeldFact, TokenHolds, FieldHolds}
-use Rattle.ja_facts.specs.Sharing.{Fact as HeapFact, PairAt, PairWithin, Effect, Name, At}
+use Rattle.ja_facts.specs.Sharing.{Fact as HeapFact, PairAt, PairWithin, Effect, Name, OfSlot}
 use Rattle.ja_facts.specs.Reaching.{Fact as ReachFact, ReachAt, ReachWithin}
 
 -- an item of a list of copies is the copy
@@ -133,8 +133,8 @@ module _ (p : Parts) where
 
   no-within : (C : ClassFact → Type 0) (m i : ℕ) (a b : Name) → WithinHas p C (empty_pairs p) m i a b → ⊥
   no-within C m i a b (within_before l h) = no-pair_fact m i a b h
-  no-within C m i a b (within_absorbed {under = under} x v l s w live h g) = no-pair_fact m i a (At (argument under x)) h
-  no-within C m i a b (within_turned {under = under} x v l s w live h g) = no-pair_fact m i b (At (argument under x)) h
+  no-within C m i a b (within_absorbed {under = under} x v l s w live h g) = no-pair_fact m i a (OfSlot (argument under x)) h
+  no-within C m i a b (within_turned {under = under} x v l s w live h g) = no-pair_fact m i b (OfSlot (argument under x)) h
 
   pub no-heap_fact : (C : ClassFact → Type 0) (f : HeapFact) → TellsHeap p C (empty_pairs p) (empty_effects p) f → ⊥
   no-heap_fact C (PairAt m i a b) h = no-pair_fact m i a b h

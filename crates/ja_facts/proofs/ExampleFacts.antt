@@ -6,12 +6,12 @@ use Rattle.ja_ir.specs.Lookup.{OpAt, Leads}
 use Rattle.ja_ir.specs.Tokens.{lib_token}
 use Rattle.ja_facts.specs.Least.{Each, Least}
 use Rattle.ja_facts.specs.Slots.{Slot, Local, OnStack, CallAt, kept_local}
-use Rattle.ja_facts.specs.Actions.{IsInitialiser, IsEntry}
+use Rattle.ja_facts.specs.Actions.{IsInitializer, IsEntry}
 use Rattle.ja_facts.specs.ClassSets.{Fact as ClassFact, Reached, CallsLibrary, InThrown, Rule as ClassRule, entry_runs, next_reached, found_library, by_static, throws_library}
 use Rattle.ja_facts.specs.Held.{OfField}
 use Rattle.ja_facts.specs.Formulas.{Turns, IsNormalEnd, IsExceptionalEnd, copied, above, answered, static_loaded, thrown}
 use Rattle.ja_facts.specs.Analyses.{Classes, analyses_of}
-use Rattle.ja_facts.specs.Equations.{Fact, Context, At, Normal, Threw, Stored, Rule, IsNothing, MayBegin, entry_called, initialiser_called, begins, steps, reads_stored_field, stored, leaves, method_ends, IsWarned, stores_static, reads_field, reads_static, itself, Reads}
+use Rattle.ja_facts.specs.Equations.{Fact, Context, At, Normal, Threw, Stored, Rule, IsNothing, MayBegin, entry_called, initializer_called, begins, steps, reads_stored_field, stored, leaves, method_ends, IsWarned, stores_static, reads_field, reads_static, itself, Reads}
 use Rattle.ja_facts.specs.Example.{example, nothing, example_main, example_entry, reached_instr, source_call, sink_call, example_site, lowest, only_lowest, clean_return, tainted_throw}
 use Rattle.std.specs.Prelude.{codes}
 use Rattle.std.proofs.lemmas.Fmt.{decimal_digit}
@@ -142,8 +142,8 @@ reads_none_put e f r reads_static = absurd (cc e)
 main_entry : IsEntry example example_entry example_main
 main_entry = record { listed = (0, lit< tt, refl); found = refl }
 
-initialises : IsInitialiser example 1
-initialises = record { entry = example_entry; listed = (0, lit< tt, refl); initialises = (0, lit< tt, refl) }
+initializes : IsInitializer example 1
+initializes = record { entry = example_entry; listed = (0, lit< tt, refl); initializes = (0, lit< tt, refl) }
 
 is_nothing : IsNothing nothing
 is_nothing = record { slots = λ z. refl; dirt = refl; exc = refl }
@@ -191,4 +191,4 @@ pub returned : Least (Rule example (analyses_of example)) (Normal 1 nothing clea
 returned =
     by_rule (At 1 0 nothing nothing ∷ []) (Normal 1 nothing clean_return)
     (method_ends (record { instr = reached_instr 0 (Return None) [] 0; found = refl; is_op = refl; is_height = refl }))
-    (by_rule (Context 1 nothing ∷ []) (At 1 0 nothing nothing) begins (by_rule [] (Context 1 nothing) (initialiser_called initialises is_nothing) tt, tt), tt)
+    (by_rule (Context 1 nothing ∷ []) (At 1 0 nothing nothing) begins (by_rule [] (Context 1 nothing) (initializer_called initializes is_nothing) tt, tt), tt)

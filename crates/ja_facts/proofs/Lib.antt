@@ -5,6 +5,7 @@ pub mod Loads
 pub mod Empty
 pub mod Membership
 pub mod Reasons
-pub mod MoreMarks
+pub mod MorePositions
 pub mod Joint
 pub mod Kept
+mod Shared

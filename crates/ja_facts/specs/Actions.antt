@@ -8,10 +8,10 @@ use Rattle.ja_ir.specs.Entries.{constructor_of}
 use Rattle.ja_ir.specs.Initializing.{inits_of_class}
 
 -- the environment may run m to initialise the class of an entry: it is a class initialiser of that class or of a program supertype
-pub record IsInitialiser (p : Parts) (m : ℕ) : Type 0 where
+pub record IsInitializer (p : Parts) (m : ℕ) : Type 0 where
   pub entry : Entry
   pub listed : Contains p.entries entry
-  pub initialises : Contains (inits_of_class (slice_get p.classes entry.class.0)) (record { 0 = m })
+  pub initializes : Contains (inits_of_class (slice_get p.classes entry.class.0)) (record { 0 = m })
 
 -- m is the constructor without parameters of class c
 abbrev pub IsConstructor : Parts → (c m : ℕ) → Type 0
@@ -30,6 +30,6 @@ pub record HasObjects (p : Parts) (entry : Entry) : Type 0 where
 
 -- m is a method that an action of the environment runs
 pub data IsRun (p : Parts) (m : ℕ) : Type 0 where
-  runs_initialiser : IsInitialiser p m → IsRun p m
+  runs_initializer : IsInitializer p m → IsRun p m
   runs_constructor : (entry : Entry) → HasObjects p entry → IsConstructor p entry.class.0 m → IsRun p m
   runs_entry : (entry : Entry) (method : Method) → IsEntry p entry method → m ≡ entry.method.0 → IsRun p m

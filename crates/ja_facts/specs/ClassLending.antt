@@ -3,16 +3,8 @@ use Rattle.std.specs.Prelude.{ℕ, Bool, List, slice_set}
 use Rattle.std.specs.Borrow.{Lends, MutBor, Fml}
 use Rattle.ja_sets.specs.contracts.tokens.TokenSet as tokens
 use Rattle.ja_facts.specs.ClassTables.{ClassTable}
-use Rattle.ja_facts.specs.Listing.{with_listed, with_listed_in}
+use Rattle.ja_facts.specs.Listing.{with_listed_in}
 use Rattle.ja_facts.specs.contracts.classes.ClassSets.{the_row}
-
--- the sets end with the set of a slot before an instruction as it was left
-abbrev pub LendsSlot : MutBor ClassTable → (m i z : ℕ) → MutBor (List Bool) → Fml
-LendsSlot sets m i z r = Lends the_row tokens.the_row sets r (λ set. record sets.now { slots = with_listed sets.now.slots m i z set })
-
--- the sets end with the set of what an instruction throws as it was left
-abbrev pub LendsThrown : MutBor ClassTable → (m i : ℕ) → MutBor (List Bool) → Fml
-LendsThrown sets m i r = Lends the_row tokens.the_row sets r (λ set. record sets.now { thrown = with_listed sets.now.thrown m i 0 set })
 
 -- the sets end with the set of a parameter as it was left
 abbrev pub LendsParam : MutBor ClassTable → (m k : ℕ) → MutBor (List Bool) → Fml

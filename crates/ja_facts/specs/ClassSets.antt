@@ -26,7 +26,7 @@ use Rattle.ja_ir.specs.Handlers.{dest, Inside, Outside}
 use Rattle.ja_ir.specs.Initializing.{InitAt}
 use Rattle.ja_ir.specs.Params.{HasParam, param_local}
 use Rattle.ja_facts.specs.Slots.{Slot, Local, OnStack, Copies, CallAt, argument}
-use Rattle.ja_facts.specs.Actions.{IsInitialiser, IsConstructor, IsEntry, HasObjects}
+use Rattle.ja_facts.specs.Actions.{IsInitializer, IsConstructor, IsEntry, HasObjects}
 
 -- what class sets and the call graph say
 pub data Fact : Type 0 where
@@ -139,7 +139,7 @@ pub data Rule (p : Parts) : List Fact → Fact → Type 0 where
   env_object : (entry : Entry) → HasObjects p entry → Rule p [] (InEnv entry.class.0)
   env_fresh : (entry : Entry) (method : Method) (k t : ℕ) (type : JavaType) → IsEntry p entry method → HasParam method k type
       → Contains (fresh_tokens p type) t → Rule p [] (InEnv t)
-  initialiser_runs : {m : ℕ} → IsInitialiser p m → Rule p [] (Reached m 0)
+  initializer_runs : {m : ℕ} → IsInitializer p m → Rule p [] (Reached m 0)
   constructor_runs : {m : ℕ} (entry : Entry) → HasObjects p entry → IsConstructor p entry.class.0 m → Rule p [] (Reached m 0)
   entry_runs : (entry : Entry) → Contains p.entries entry → Rule p [] (Reached entry.method.0 0)
   constructor_receives : {m : ℕ} (entry : Entry) → HasObjects p entry → IsConstructor p entry.class.0 m → Rule p [] (InParam m 0 entry.class.0)
@@ -149,7 +149,7 @@ pub data Rule (p : Parts) : List Fact → Fact → Type 0 where
   env_bag : {b t : ℕ} → IsLibraryBag p b → Rule p (InEnv b ∷ InEnv t ∷ []) (InBag b t)
   -- control goes on, and values move with it
   next_reached : {m i j : ℕ} → Leads p m i j → Rule p (Reached m i ∷ []) (Reached m j)
-  initialises : {m i n : ℕ} → InitAt p m i n → Rule p (Reached m i ∷ []) (Reached n 0)
+  initializes : {m i n : ℕ} → InitAt p m i n → Rule p (Reached m i ∷ []) (Reached n 0)
   begins : {m k t : ℕ} (method : Method) → slice_get p.methods m ≡ Some method
       → Rule p (Reached m 0 ∷ InParam m k t ∷ []) (InSlot m 0 (Local (param_local method k)) t)
   moved : {m i j t height : ℕ} {op : Op} {z y : Slot} → OpAt p m i op height → Leads p m i j → Copies op height z y → Passes p op height z t

@@ -33,7 +33,7 @@ pub data Enters (p : Parts) (C : ClassFact → Type 0) (m i n : ℕ) : (count un
   -- a call enters its target with its arguments
   by_call : {under : ℕ} {call : CallOp} → C (Reached m i) → C (CallsMethod m i n) → CallAt p m i call under → Enters p C m i n (arguments call) under
   -- an initialising step enters the class initialiser without arguments, over all that is on the stack
-  by_initialiser : {height : ℕ} {op : Op} → C (Reached m i) → InitAt p m i n → OpAt p m i op height → Enters p C m i n 0 height
+  by_initializer : {height : ℕ} {op : Op} → C (Reached m i) → InitAt p m i n → OpAt p m i op height → Enters p C m i n 0 height
 
 -- a way through a method: with how many arguments it is entered, over how many values on the stack; at which instruction control comes back,
 -- where each local and so many values of the stack are left; and whether a result or an exception is then on top of these
@@ -53,5 +53,5 @@ pub data Crosses (p : Parts) (C : ClassFact → Type 0) (m i n : ℕ) : Crossing
   call_throws : {j under : ℕ} {call : CallOp} → C (Reached m i) → C (CallsMethod m i n) → CallAt p m i call under → IsHandled p m i j
       → Crosses p C m i n (record { count = arguments call; under = under; back = j; left = 0; answers = true })
   -- an initialising step comes back before the same instruction; all is left, and nothing is answered
-  initialiser_returns : {height : ℕ} {op : Op} → C (Reached m i) → InitAt p m i n → OpAt p m i op height
+  initializer_returns : {height : ℕ} {op : Op} → C (Reached m i) → InitAt p m i n → OpAt p m i op height
       → Crosses p C m i n (record { count = 0; under = height; back = i; left = height; answers = false })

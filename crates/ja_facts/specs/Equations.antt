@@ -18,7 +18,7 @@ use Rattle.ja_ir.specs.Initializing.{InitAt}
 use Rattle.ja_ir.specs.Categories.{projected}
 use Rattle.ja_facts.specs.Least.{Least}
 use Rattle.ja_facts.specs.Slots.{Slot, Local, OnStack, CallAt, argument}
-use Rattle.ja_facts.specs.Actions.{IsInitialiser, IsConstructor, IsEntry, HasObjects}
+use Rattle.ja_facts.specs.Actions.{IsInitializer, IsConstructor, IsEntry, HasObjects}
 use Rattle.ja_facts.specs.ClassSets.{InThrown, InParam, CallsMethod, Takes}
 use Rattle.ja_facts.specs.Held.{TokenHolds, FieldHolds, Cell, OfField, OfBag}
 use Rattle.ja_facts.specs.Crossings.{has_result}
@@ -144,12 +144,12 @@ return_summary value b = record { result = value; dirt = b.dirt; exc = false }
 -- from these facts comes this fact, for what is known of the program
 pub data Rule (p : Parts) (A : Analyses) : List Fact → Fact → Type 0 where
   -- the environment runs a class initialiser or a constructor with nothing true, and calls an entry
-  initialiser_called : {m : ℕ} {a : Assignment} → IsInitialiser p m → IsNothing a → Rule p A [] (Context m a)
+  initializer_called : {m : ℕ} {a : Assignment} → IsInitializer p m → IsNothing a → Rule p A [] (Context m a)
   constructor_called : {m : ℕ} {a : Assignment} (entry : Entry) → HasObjects p entry → IsConstructor p entry.class.0 m → IsNothing a → Rule p A [] (Context m a)
   entry_called : {a : Assignment} (entry : Entry) (cells : List Cell) → MayBegin p A entry a cells → Rule p A (stored_facts cells) (Context entry.method.0 a)
   -- a call runs a method with the arguments, and an initialising step a class initialiser with nothing true
   called : {m i n under : ℕ} {call : CallOp} {c b a : Assignment} → Calls p A m i n call under b a → Rule p A (At m i c b ∷ []) (Context n a)
-  initialised : {m i n : ℕ} {c b a : Assignment} → InitAt p m i n → IsNothing a → Rule p A (At m i c b ∷ []) (Context n a)
+  initialized : {m i n : ℕ} {c b a : Assignment} → InitAt p m i n → IsNothing a → Rule p A (At m i c b ∷ []) (Context n a)
   begins : {m : ℕ} {a : Assignment} → Rule p A (Context m a ∷ []) (At m 0 a a)
   -- a normal end at which nothing true is read of a field
   steps : {m i j height : ℕ} {op : Op} {a b after : Assignment} → OpAt p m i op height → Leads p m i j → IsNormalEnd p A m i b after
@@ -160,7 +160,7 @@ pub data Rule (p : Parts) (A : Analyses) : List Fact → Fact → Type 0 where
   -- a method has returned: a call goes on behind it, and after an initialising step its instruction is come to again
   call_resumes : {m i j n under : ℕ} {call : CallOp} {a b c after : Assignment} {s : Summary} → Calls p A m i n call under b c → Leads p m i j
       → IsReturn A m i n (arguments call) under (has_result call.result) b s after → Rule p A (At m i a b ∷ Normal n c s ∷ []) (At m j a after)
-  initialiser_resumes : {m i n height : ℕ} {op : Op} {a b c after : Assignment} {s : Summary} → OpAt p m i op height → InitAt p m i n → IsNothing c
+  initializer_resumes : {m i n height : ℕ} {op : Op} {a b c after : Assignment} {s : Summary} → OpAt p m i op height → InitAt p m i n → IsNothing c
       → IsReturn A m i n 0 height false b s after → Rule p A (At m i a b ∷ Normal n c s ∷ []) (At m i a after)
   -- an exceptional end that is caught, of the operation itself and of a method that was called
   caught : {m i j t : ℕ} {a b thrown after : Assignment} → A.classes (InThrown m i t) → Contains (dest p m i t) (Inside j) → IsExceptionalEnd p A m i b thrown

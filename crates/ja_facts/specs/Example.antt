@@ -65,8 +65,8 @@ example_main = record {
 }
 
 -- the class initialiser, which returns at once
-abbrev pub example_initialiser : Method
-example_initialiser = record {
+abbrev pub example_initializer : Method
+example_initializer = record {
   class = record { 0 = 0 };
   name = codes "<clinit>";
   desc = codes "()V";
@@ -90,7 +90,7 @@ example_site = record { method = record { 0 = 0 }; index = 3; positions = 0 ∷ 
 abbrev pub example : Parts
 example = record {
   classes = record { name = codes "A"; file = codes "A.class"; flags = 33; absorbing = false; supers = record { 0 = 0 } ∷ []; selections = []; inits = record { 0 = 1 } ∷ [] } ∷ [];
-  methods = example_main ∷ example_initialiser ∷ [];
+  methods = example_main ∷ example_initializer ∷ [];
   fields = record { class = record { 0 = 0 }; name = codes "f"; desc = codes "Ljava/lang/String;"; flags = 9; text = false } ∷ [];
   entries = example_entry ∷ [];
   sites = example_site ∷ [];

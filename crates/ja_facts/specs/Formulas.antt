@@ -19,7 +19,7 @@ use Rattle.ja_ir.specs.Lookup.{instr_at}
 use Rattle.ja_ir.specs.Operations.{arguments, count_of, has_receiver, may_throw, ends_method, height_after}
 use Rattle.ja_facts.specs.Slots.{Slot, Local, OnStack, Copies, argument, IsLeft}
 use Rattle.ja_facts.specs.ClassSets.{CallsAbstract, CallsLibrary, IsSource}
-use Rattle.ja_facts.specs.Sharing.{PairAt, Effect, Root, At, Makes, Writes, IsRootOf, root_name}
+use Rattle.ja_facts.specs.Sharing.{PairAt, Effect, Root, OfSlot, Makes, Writes, IsRootOf, root_name}
 use Rattle.ja_facts.specs.Reaching.{ReachAt}
 use Rattle.ja_facts.specs.Analyses.{Analyses}
 
@@ -101,7 +101,7 @@ pub data Loads : Op → (height : ℕ) → (x r : Slot) → Type 0 where
 pub record MeetsSource (A : Analyses) (m i : ℕ) (call : CallOp) (under : ℕ) (y : Slot) : Type 0 where
   pub x : ℕ
   pub source : IsSource call x call.row.effect
-  pub pair : A.heaps (PairAt m i (At y) (At (argument under x)))
+  pub pair : A.heaps (PairAt m i (OfSlot y) (OfSlot (argument under x)))
 
 -- at a normal end of an operation with so many values on the stack before it, the slot may have this truth
 pub data Turns (A : Analyses) (m i : ℕ) (b : Assignment) : Op → (height : ℕ) → Slot → Bool → Type 0 where
@@ -125,7 +125,7 @@ pub data Turns (A : Analyses) (m i : ℕ) (b : Assignment) : Op → (height : �
   -- what is read of a static field is anything
   static_loaded : {f height : ℕ} {t : Bool} → Turns A m i b (GetStatic (record { 0 = f })) height (OnStack height) t
   -- a write may make true what may reach the object, where the value is true
-  written : {op : Op} {height : ℕ} {x v y : Slot} {t : Bool} → Writes op height x v → Copies op height y y → A.reach (ReachAt m i (At y) x)
+  written : {op : Op} {height : ℕ} {x v y : Slot} {t : Bool} → Writes op height x v → Copies op height y y → A.reach (ReachAt m i (OfSlot y) x)
       → Implies t (b.slot y || b.slot v) → Turns A m i b op height y t
   -- a library call may make true what meets a source of its effect
   absorbed : {call : CallOp} {height : ℕ} {y : Slot} {t : Bool} (under : ℕ) → height ≡ under + arguments call → Copies (Call call) height y y
@@ -208,7 +208,7 @@ pub record IsAffected (A : Analyses) (m i n count under : ℕ) (y : Slot) : Type
   pub root : Root
   pub is_root : IsRootOf count root
   pub effect : A.heaps (Effect n root)
-  pub pair : A.heaps (PairAt m i (At y) (root_name under root))
+  pub pair : A.heaps (PairAt m i (OfSlot y) (root_name under root))
 
 -- the slot may have this truth after method n, which was entered so, has ended with this summary: the values under the arguments are left on the
 -- stack, and over them the result if there is one

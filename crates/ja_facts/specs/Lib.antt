@@ -16,7 +16,8 @@ pub mod Listing
 pub mod ListLending
 pub mod ClassLending
 pub mod FactTables
+pub mod Shared
 pub mod FactLending
 pub mod Told
 pub mod Example
-pub mod Marks
+pub mod MarkedPositions

@@ -1,18 +1,10 @@
 -- Tables of lists.
-use Rattle.std.specs.Prelude.{ℕ, List, [], length, slice_index_or, slice_set}
+use Rattle.std.specs.Prelude.{ℕ, List, [], slice_index_or, slice_set}
 
 -- item k of those that a table lists at a row and a column, and another one where it lists none
 abbrev pub listed_at : {A : Type 0} → List (List (List A)) → (row column k : ℕ) → (none : A) → A
 listed_at table row column k none = slice_index_or (slice_index_or (slice_index_or table row []) column []) k none
 
--- how many items a table lists there
-abbrev pub count_at : {A : Type 0} → List (List (List A)) → (row column : ℕ) → ℕ
-count_at table row column = length (slice_index_or (slice_index_or table row []) column [])
-
 -- the rows with item k of a row replaced
 abbrev pub with_listed_in : {A : Type 0} → List (List A) → (row k : ℕ) → A → List (List A)
 with_listed_in rows row k item = slice_set rows row (slice_set (slice_index_or rows row []) k item)
-
--- the table with item k at a row and a column replaced
-abbrev pub with_listed : {A : Type 0} → List (List (List A)) → (row column k : ℕ) → A → List (List (List A))
-with_listed table row column k item = slice_set table row (with_listed_in (slice_index_or table row []) column k item)

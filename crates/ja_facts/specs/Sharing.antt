@@ -22,11 +22,11 @@ use Rattle.ja_facts.specs.Crossings.{IsHandled, Enters, Crossing, Crosses, has_r
 -- what a method begins with: argument k, or the static fields
 pub data Root : Type 0 where
   Arg : (k : ℕ) → Root
-  Fields : Root
+  StaticFields : Root
 
 -- the names at a point: a slot, the static fields, and the objects that a root reached when the method began
 pub data Name : Type 0 where
-  At : (z : Slot) → Name
+  OfSlot : (z : Slot) → Name
   Statics : Name
   Old : (r : Root) → Name
 
@@ -41,29 +41,29 @@ pub data Fact : Type 0 where
 
 -- the name can change: it is a slot or the static fields
 pub data IsLive : Name → Type 0 where
-  live_slot : {z : Slot} → IsLive (At z)
+  live_slot : {z : Slot} → IsLive (OfSlot z)
   live_statics : IsLive Statics
 
 -- at a normal end of an operation, the second name has the places that the first had
 pub data Keeps (op : Op) (height : ℕ) : Name → Name → Type 0 where
-  keeps_slot : {z y : Slot} → Copies op height z y → Keeps op height (At z) (At y)
+  keeps_slot : {z y : Slot} → Copies op height z y → Keeps op height (OfSlot z) (OfSlot y)
   keeps_statics : Keeps op height Statics Statics
   keeps_old : {r : Root} → Keeps op height (Old r) (Old r)
 
 -- the name stays where so many values are left on the stack: each but the other slots of the stack
 pub data Stays (left : ℕ) : Name → Type 0 where
-  stays_slot : {z : Slot} → IsLeft left z → Stays left (At z)
+  stays_slot : {z : Slot} → IsLeft left z → Stays left (OfSlot z)
   stays_statics : Stays left Statics
   stays_old : {r : Root} → Stays left (Old r)
 
 -- the operation pushes there what a field or an element of the object in the slot has
-pub data Takes : Op → (height : ℕ) → (x r : Slot) → Type 0 where
-  takes_field : {f height k : ℕ} → height ≡ suc k → Takes (GetField (record { 0 = f })) height (OnStack k) (OnStack k)
-  takes_element : {height k : ℕ} → height ≡ suc (suc k) → Takes (ArrLoad R) height (OnStack k) (OnStack k)
+pub data Loads : Op → (height : ℕ) → (x r : Slot) → Type 0 where
+  loads_field : {f height k : ℕ} → height ≡ suc k → Loads (GetField (record { 0 = f })) height (OnStack k) (OnStack k)
+  loads_element : {height k : ℕ} → height ≡ suc (suc k) → Loads (ArrLoad R) height (OnStack k) (OnStack k)
 
 -- the operation pushes there what a static field has
-pub data TakesStatic : Op → (height : ℕ) → (r : Slot) → Type 0 where
-  takes_static : {f height : ℕ} → TakesStatic (GetStatic (record { 0 = f })) height (OnStack height)
+pub data LoadsStatic : Op → (height : ℕ) → (r : Slot) → Type 0 where
+  loads_static : {f height : ℕ} → LoadsStatic (GetStatic (record { 0 = f })) height (OnStack height)
 
 -- the operation writes what is in slot v into the object in slot x
 pub data Writes : Op → (height : ℕ) → (x v : Slot) → Type 0 where
@@ -82,23 +82,23 @@ pub data Makes : Op → (height : ℕ) → (r : Slot) → Type 0 where
 
 -- the name of a root of a method, where its arguments lie over so many values on the stack of the method that enters it
 abbrev pub root_name : (under : ℕ) → Root → Name
-root_name under (Arg k) = At (argument under k)
-root_name under Fields = Statics
+root_name under (Arg k) = OfSlot (argument under k)
+root_name under StaticFields = Statics
 
 -- the root is one of a method that is entered with so many arguments: one of these, or the static fields
 abbrev pub IsRootOf : (count : ℕ) → Root → Type 0
 IsRootOf count (Arg k) = k < count
-IsRootOf count Fields = Unit {0}
+IsRootOf count StaticFields = Unit {0}
 
 -- the name in a method of what it begins with
 abbrev pub start_name : Method → Root → Name
-start_name method (Arg k) = At (Local (param_local method k))
-start_name method Fields = Statics
+start_name method (Arg k) = OfSlot (Local (param_local method k))
+start_name method StaticFields = Statics
 
 -- the root of a method that the environment runs: a reference parameter, or the static fields
 abbrev pub IsReference : Method → Root → Type 0
 IsReference method (Arg k) = IsReferenceParam method k
-IsReference method Fields = Unit {0}
+IsReference method StaticFields = Unit {0}
 
 -- the result of a library call meets itself whatever its arguments are: it is no copy of one
 abbrev pub MeetsItself : RowResult → Type 0
@@ -163,7 +163,7 @@ pub data Rule (p : Parts) (C : ClassFact → Type 0) : List Fact → Fact → Ty
   turned : {m i : ℕ} {a b : Name} → Rule p C (PairAt m i a b ∷ []) (PairAt m i b a)
   turned_within : {m i : ℕ} {a b : Name} → Rule p C (PairWithin m i a b ∷ []) (PairWithin m i b a)
   statics_meet : {m i : ℕ} (instr : Instr) → instr_at p m i ≡ Some instr → Rule p C [] (PairAt m i Statics Statics)
-  statics_meet_old : {m i : ℕ} (instr : Instr) → instr_at p m i ≡ Some instr → Rule p C [] (PairAt m i Statics (Old Fields))
+  statics_meet_old : {m i : ℕ} (instr : Instr) → instr_at p m i ≡ Some instr → Rule p C [] (PairAt m i Statics (Old StaticFields))
   -- where methods begin: those that the environment runs, and those that are entered
   run_begins : {m : ℕ} (method : Method) (s r : Root) → IsRun p m → Begins p m method → IsReference method s → IsReference method r
       → Rule p C [] (PairAt m 0 (start_name method s) (start_name method r))
@@ -177,60 +177,60 @@ pub data Rule (p : Parts) (C : ClassFact → Type 0) : List Fact → Fact → Ty
   kept : {m i j height : ℕ} {op : Op} {a b c d : Name} → Step p C m i j op height → IsNoCall op → Keeps op height a c → Keeps op height b d
       → Rule p C (PairAt m i a b ∷ []) (PairAt m j c d)
   copied : {m i j height : ℕ} {op : Op} {z x y : Slot} → Step p C m i j op height → IsNoCall op → Copies op height z x → Copies op height z y → x ≢ y
-      → Rule p C [] (PairAt m j (At x) (At y))
+      → Rule p C [] (PairAt m j (OfSlot x) (OfSlot y))
   -- a new object
-  made : {m i j height : ℕ} {op : Op} {r : Slot} → Step p C m i j op height → Makes op height r → Rule p C [] (PairAt m j (At r) (At r))
+  made : {m i j height : ℕ} {op : Op} {r : Slot} → Step p C m i j op height → Makes op height r → Rule p C [] (PairAt m j (OfSlot r) (OfSlot r))
   -- what a field or an element has is in what its object reaches
-  taken : {m i j height : ℕ} {op : Op} {x r : Slot} {b d : Name} → Step p C m i j op height → Takes op height x r → Keeps op height b d
-      → Rule p C (PairAt m i (At x) b ∷ []) (PairAt m j (At r) d)
-  taken_meets : {m i j height : ℕ} {op : Op} {x r : Slot} → Step p C m i j op height → Takes op height x r → Rule p C [] (PairAt m j (At r) (At r))
-  static_taken : {m i j height : ℕ} {op : Op} {r : Slot} {b d : Name} → Step p C m i j op height → TakesStatic op height r → Keeps op height b d
-      → Rule p C (PairAt m i Statics b ∷ []) (PairAt m j (At r) d)
-  static_taken_meets : {m i j height : ℕ} {op : Op} {r : Slot} → Step p C m i j op height → TakesStatic op height r → Rule p C [] (PairAt m j (At r) (At r))
-  static_taken_shares : {m i j height : ℕ} {op : Op} {r : Slot} → Step p C m i j op height → TakesStatic op height r → Rule p C [] (PairAt m j (At r) Statics)
+  object_loaded : {m i j height : ℕ} {op : Op} {x r : Slot} {b d : Name} → Step p C m i j op height → Loads op height x r → Keeps op height b d
+      → Rule p C (PairAt m i (OfSlot x) b ∷ []) (PairAt m j (OfSlot r) d)
+  object_loaded_meets : {m i j height : ℕ} {op : Op} {x r : Slot} → Step p C m i j op height → Loads op height x r → Rule p C [] (PairAt m j (OfSlot r) (OfSlot r))
+  static_loaded : {m i j height : ℕ} {op : Op} {r : Slot} {b d : Name} → Step p C m i j op height → LoadsStatic op height r → Keeps op height b d
+      → Rule p C (PairAt m i Statics b ∷ []) (PairAt m j (OfSlot r) d)
+  static_loaded_meets : {m i j height : ℕ} {op : Op} {r : Slot} → Step p C m i j op height → LoadsStatic op height r → Rule p C [] (PairAt m j (OfSlot r) (OfSlot r))
+  static_loaded_shares : {m i j height : ℕ} {op : Op} {r : Slot} → Step p C m i j op height → LoadsStatic op height r → Rule p C [] (PairAt m j (OfSlot r) Statics)
   -- a write: what reaches the object then reaches what is written
   written : {m i j height : ℕ} {op : Op} {x v : Slot} {a b c d : Name} → Step p C m i j op height → Writes op height x v → IsLive a → Keeps op height a c → Keeps op height b d
-      → Rule p C (PairAt m i a (At x) ∷ PairAt m i (At v) b ∷ []) (PairAt m j c d)
+      → Rule p C (PairAt m i a (OfSlot x) ∷ PairAt m i (OfSlot v) b ∷ []) (PairAt m j c d)
   static_written : {m i j height : ℕ} {op : Op} {v : Slot} {b d : Name} → Step p C m i j op height → WritesStatic op height v → Keeps op height b d
-      → Rule p C (PairAt m i (At v) b ∷ []) (PairAt m j Statics d)
+      → Rule p C (PairAt m i (OfSlot v) b ∷ []) (PairAt m j Statics d)
   -- a library call: its effect
   within : {m i under : ℕ} {call : CallOp} {a b : Name} → LibraryCall p C m i call under → Rule p C (PairAt m i a b ∷ []) (PairWithin m i a b)
   absorbed : {m i under : ℕ} {call : CallOp} {a b : Name} (x v : ℕ) → LibraryCall p C m i call under → IsSource call x call.row.effect → v < arguments call → IsLive a
-      → Rule p C (PairAt m i a (At (argument under x)) ∷ PairAt m i (At (argument under v)) b ∷ []) (PairWithin m i a b)
+      → Rule p C (PairAt m i a (OfSlot (argument under x)) ∷ PairAt m i (OfSlot (argument under v)) b ∷ []) (PairWithin m i a b)
   -- what is there after it, at its normal end and where it throws; and the exception, which is new
   library_ends : {m i j left : ℕ} {a b : Name} → LibraryEnds p C m i j left → Stays left a → Stays left b → Rule p C (PairWithin m i a b ∷ []) (PairAt m j a b)
-  library_throws : {m i j under : ℕ} {call : CallOp} → LibraryCall p C m i call under → IsHandled p m i j → Rule p C [] (PairAt m j (At (OnStack 0)) (At (OnStack 0)))
+  library_throws : {m i j under : ℕ} {call : CallOp} → LibraryCall p C m i call under → IsHandled p m i j → Rule p C [] (PairAt m j (OfSlot (OnStack 0)) (OfSlot (OnStack 0)))
   -- and its result
   library_meets : {m i j under : ℕ} {call : CallOp} → LibraryAnswer p C m i j call under → MeetsItself call.row.result
-      → Rule p C [] (PairAt m j (At (OnStack under)) (At (OnStack under)))
+      → Rule p C [] (PairAt m j (OfSlot (OnStack under)) (OfSlot (OnStack under)))
   library_argument : {m i j under : ℕ} {call : CallOp} {b : Name} → LibraryAnswer p C m i j call under → call.row.result ≡ Argument → 0 < arguments call → Stays under b
-      → Rule p C (PairWithin m i (At (argument under 0)) b ∷ []) (PairAt m j (At (OnStack under)) b)
+      → Rule p C (PairWithin m i (OfSlot (argument under 0)) b ∷ []) (PairAt m j (OfSlot (OnStack under)) b)
   library_argument_meets : {m i j under : ℕ} {call : CallOp} → LibraryAnswer p C m i j call under → call.row.result ≡ Argument → 0 < arguments call
-      → Rule p C (PairWithin m i (At (argument under 0)) (At (argument under 0)) ∷ []) (PairAt m j (At (OnStack under)) (At (OnStack under)))
+      → Rule p C (PairWithin m i (OfSlot (argument under 0)) (OfSlot (argument under 0)) ∷ []) (PairAt m j (OfSlot (OnStack under)) (OfSlot (OnStack under)))
   library_member : {m i j under : ℕ} {call : CallOp} {b : Name} (k : ℕ) → LibraryAnswer p C m i j call under → LeadsFrom call k call.row.result → Stays under b
-      → Rule p C (PairWithin m i (At (argument under k)) b ∷ []) (PairAt m j (At (OnStack under)) b)
+      → Rule p C (PairWithin m i (OfSlot (argument under k)) b ∷ []) (PairAt m j (OfSlot (OnStack under)) b)
   -- a way through a program method: what stays; what meets a root that the method changes meets what meets any root, and what is answered
   crossing_kept : {m i n : ℕ} {a b : Name} (x : Crossing) → Crosses p C m i n x → Stays x.left a → Stays x.left b → Rule p C (PairAt m i a b ∷ []) (PairAt m x.back a b)
   affected_meets : {m i n : ℕ} {a b : Name} (x : Crossing) (s r : Root) → Crosses p C m i n x → IsRootOf x.count s → IsRootOf x.count r → IsLive a → Stays x.left a → Stays x.left b
       → Rule p C (Effect n s ∷ PairAt m i a (root_name x.under s) ∷ PairAt m i b (root_name x.under r) ∷ []) (PairAt m x.back a b)
   affected_answer : {m i n : ℕ} {a : Name} (x : Crossing) (s : Root) → Crosses p C m i n x → IsRootOf x.count s → x.answers ≡ true → IsLive a → Stays x.left a
-      → Rule p C (Effect n s ∷ PairAt m i a (root_name x.under s) ∷ []) (PairAt m x.back a (At (OnStack x.left)))
+      → Rule p C (Effect n s ∷ PairAt m i a (root_name x.under s) ∷ []) (PairAt m x.back a (OfSlot (OnStack x.left)))
   -- what is answered, a result or an exception: it meets what meets any root, and itself
   answer_meets : {m i n : ℕ} {b : Name} (x : Crossing) (r : Root) → Crosses p C m i n x → IsRootOf x.count r → x.answers ≡ true → Stays x.left b
-      → Rule p C (PairAt m i b (root_name x.under r) ∷ []) (PairAt m x.back (At (OnStack x.left)) b)
-  answer_meets_itself : {m i n : ℕ} (x : Crossing) → Crosses p C m i n x → x.answers ≡ true → Rule p C [] (PairAt m x.back (At (OnStack x.left)) (At (OnStack x.left)))
+      → Rule p C (PairAt m i b (root_name x.under r) ∷ []) (PairAt m x.back (OfSlot (OnStack x.left)) b)
+  answer_meets_itself : {m i n : ℕ} (x : Crossing) → Crosses p C m i n x → x.answers ≡ true → Rule p C [] (PairAt m x.back (OfSlot (OnStack x.left)) (OfSlot (OnStack x.left)))
   -- an exceptional end by a new object, before anything else is done
-  throws_new : {m i j : ℕ} → RaisesNew p C m i j → Rule p C [] (PairAt m j (At (OnStack 0)) (At (OnStack 0)))
+  throws_new : {m i j : ℕ} → RaisesNew p C m i j → Rule p C [] (PairAt m j (OfSlot (OnStack 0)) (OfSlot (OnStack 0)))
   throw_kept : {m i j : ℕ} {a b : Name} → RaisesNew p C m i j → Stays 0 a → Stays 0 b → Rule p C (PairAt m i a b ∷ []) (PairAt m j a b)
   -- and by the object that a throw names, which is a copy
-  thrown : {m i j k : ℕ} {b : Name} → ThrowsTo p C m i j k → Stays 0 b → Rule p C (PairAt m i (At (OnStack k)) b ∷ []) (PairAt m j (At (OnStack 0)) b)
-  thrown_meets : {m i j k : ℕ} → ThrowsTo p C m i j k → Rule p C (PairAt m i (At (OnStack k)) (At (OnStack k)) ∷ []) (PairAt m j (At (OnStack 0)) (At (OnStack 0)))
+  thrown : {m i j k : ℕ} {b : Name} → ThrowsTo p C m i j k → Stays 0 b → Rule p C (PairAt m i (OfSlot (OnStack k)) b ∷ []) (PairAt m j (OfSlot (OnStack 0)) b)
+  thrown_meets : {m i j k : ℕ} → ThrowsTo p C m i j k → Rule p C (PairAt m i (OfSlot (OnStack k)) (OfSlot (OnStack k)) ∷ []) (PairAt m j (OfSlot (OnStack 0)) (OfSlot (OnStack 0)))
   -- effects
   written_effect : {m i height : ℕ} {op : Op} {x v : Slot} {r : Root} → OpAt p m i op height → C (Reached m i) → Writes op height x v
-      → Rule p C (PairAt m i (At x) (Old r) ∷ []) (Effect m r)
-  static_effect : {m i height : ℕ} {op : Op} {v : Slot} → OpAt p m i op height → C (Reached m i) → WritesStatic op height v → Rule p C [] (Effect m Fields)
+      → Rule p C (PairAt m i (OfSlot x) (Old r) ∷ []) (Effect m r)
+  static_effect : {m i height : ℕ} {op : Op} {v : Slot} → OpAt p m i op height → C (Reached m i) → WritesStatic op height v → Rule p C [] (Effect m StaticFields)
   library_effect : {m i under : ℕ} {call : CallOp} {r : Root} (x : ℕ) → LibraryCall p C m i call under → IsSource call x call.row.effect
-      → Rule p C (PairAt m i (At (argument under x)) (Old r) ∷ []) (Effect m r)
+      → Rule p C (PairAt m i (OfSlot (argument under x)) (Old r) ∷ []) (Effect m r)
   entered_effect : {m i n count under : ℕ} {r : Root} (s : Root) → Enters p C m i n count under → IsRootOf count s
       → Rule p C (Effect n s ∷ PairAt m i (root_name under s) (Old r) ∷ []) (Effect m r)
 

@@ -15,7 +15,7 @@ use Rattle.ja_sets.specs.Sets.{Has, HasPair}
 use Rattle.ja_facts.specs.Slots.{Slot, Local, OnStack, argument}
 use Rattle.ja_facts.specs.ClassSets.{Fact as ClassFact, Reached, InEnv, InSlot, InThrown, InParam, InResult, InOut, InField, InBag, CallsMethod, CallsAbstract, CallsLibrary, Spans, Takes, HasField, IsSource}
 use Rattle.ja_facts.specs.Held.{Fact as HeldFact, TokenHolds, FieldHolds, Cell, OfField, OfBag}
-use Rattle.ja_facts.specs.Sharing.{Fact as HeapFact, PairAt, PairWithin, Effect, Root, Arg, Fields, Name, At, Statics, Old, IsLive, LibraryCall}
+use Rattle.ja_facts.specs.Sharing.{Fact as HeapFact, PairAt, PairWithin, Effect, Root, Arg, StaticFields, Name, OfSlot, Statics, Old, IsLive, LibraryCall}
 use Rattle.ja_facts.specs.Reaching.{Fact as ReachFact, ReachAt, ReachWithin}
 use Rattle.ja_facts.specs.ClassTables.{ClassTable, slot_set, thrown_set, param_set, result_set, out_set, field_set, bag_set}
 use Rattle.ja_facts.specs.FactTables.{GraphTable, is_reached, targets_at, takers_at, slot_count, HeldTable, has_effect}
@@ -171,10 +171,10 @@ TellsHeld p held (FieldHolds f c) = IsCell p c × Has (slice_index_or held.field
 -- a name of the method has this number: the slots come first, then the static fields, what each parameter reached, and what the
 -- static fields did
 pub data IsNamed (method : Method) : Name → ℕ → Type 0 where
-  named_slot : {z : Slot} {n : ℕ} → IsNumbered method z n → IsNamed method (At z) n
+  named_slot : {z : Slot} {n : ℕ} → IsNumbered method z n → IsNamed method (OfSlot z) n
   named_statics : {n : ℕ} → n ≡ slot_count method → IsNamed method Statics n
   named_old_argument : {n : ℕ} (k : ℕ) → k < param_count method → n ≡ slot_count method + 1 + k → IsNamed method (Old (Arg k)) n
-  named_old_statics : {n : ℕ} → n ≡ slot_count method + 1 + param_count method → IsNamed method (Old Fields) n
+  named_old_statics : {n : ℕ} → n ≡ slot_count method + 1 + param_count method → IsNamed method (Old StaticFields) n
 
 -- the pair of these names is in the set before the instruction
 pub record PairHas (p : Parts) (pairs : List (List (List (List Bool)))) (m i : ℕ) (a b : Name) : Type 0 where
@@ -189,7 +189,7 @@ pub record PairHas (p : Parts) (pairs : List (List (List (List Bool)))) (m i : �
 -- the number of an effect of the method: that of a parameter, or the number of parameters for the static fields
 pub data IsEffectNumber (method : Method) : Root → ℕ → Type 0 where
   effect_on_argument : {k : ℕ} → k < param_count method → IsEffectNumber method (Arg k) k
-  effect_on_statics : {n : ℕ} → n ≡ param_count method → IsEffectNumber method Fields n
+  effect_on_statics : {n : ℕ} → n ≡ param_count method → IsEffectNumber method StaticFields n
 
 -- the method has the effect in the table
 pub record EffectHas (p : Parts) (effects : List (List Bool)) (m : ℕ) (r : Root) : Type 0 where
@@ -204,9 +204,9 @@ pub record EffectHas (p : Parts) (effects : List (List Bool)) (m : ℕ) (r : Roo
 pub data WithinHas (p : Parts) (C : ClassFact → Type 0) (pairs : List (List (List (List Bool)))) (m i : ℕ) : Name → Name → Type 0 where
   within_before : {under : ℕ} {call : CallOp} {a b : Name} → LibraryCall p C m i call under → PairHas p pairs m i a b → WithinHas p C pairs m i a b
   within_absorbed : {under : ℕ} {call : CallOp} {a b : Name} (x v : ℕ) → LibraryCall p C m i call under → IsSource call x call.row.effect → v < arguments call → IsLive a
-      → PairHas p pairs m i a (At (argument under x)) → PairHas p pairs m i (At (argument under v)) b → WithinHas p C pairs m i a b
+      → PairHas p pairs m i a (OfSlot (argument under x)) → PairHas p pairs m i (OfSlot (argument under v)) b → WithinHas p C pairs m i a b
   within_turned : {under : ℕ} {call : CallOp} {a b : Name} (x v : ℕ) → LibraryCall p C m i call under → IsSource call x call.row.effect → v < arguments call → IsLive a
-      → PairHas p pairs m i a (At (argument under x)) → PairHas p pairs m i (At (argument under v)) b → WithinHas p C pairs m i b a
+      → PairHas p pairs m i a (OfSlot (argument under x)) → PairHas p pairs m i (OfSlot (argument under v)) b → WithinHas p C pairs m i b a
 
 -- the facts that pairs and effects tell, for the call graph that C tells
 abbrev pub TellsHeap : Parts → (C : ClassFact → Type 0) → (pairs : List (List (List (List Bool)))) → (effects : List (List Bool)) → HeapFact → Type 0
@@ -216,7 +216,7 @@ TellsHeap p C pairs effects (Effect m r) = EffectHas p effects m r
 
 -- the facts that reachability tells
 abbrev pub TellsReach : Parts → (reach : List (List (List (List Bool)))) → ReachFact → Type 0
-TellsReach p reach (ReachAt m i a z) = PairHas p reach m i a (At z)
+TellsReach p reach (ReachAt m i a z) = PairHas p reach m i a (OfSlot z)
 TellsReach p reach (ReachWithin m i a z) = ⊥
 
 -- the fact is one that it keeps

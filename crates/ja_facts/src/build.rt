@@ -1,8 +1,10 @@
 ghost use Rattle.std.specs.Prelude.{◌≡◌, ◌+◌, ◌<◌, false, map, replicate, IfOk};
-ghost use Rattle.ja_facts.specs.ClassTables.{token_count, no_members, throws_some, slots_before, throws_before, empty_slots_of, empty_thrown_of};
+ghost use Rattle.ja_facts.specs.ClassTables.{token_count, no_members, throws_some, slots_before, throws_before};
+ghost use Rattle.ja_facts.specs.Shared.{zero_slots_of, zero_thrown_of};
 ghost use Rattle.ja_ir.specs.Params.{param_count};
 ghost use Rattle.ja_ir.specs.declared.method.Method.{Method};
 
+use crate::flat::FlatRows;
 use crate::params::param_count;
 use crate::rows::Rows;
 use ja_base::Memory;
@@ -61,7 +63,7 @@ fn slots_before(method: &Method, instr: &Instr) -> u64
 }
 
 // 1 for a reached instruction that may throw, 0 for another.
-fn throws_before(instr: &Instr) -> u64
+fn throws_before(instr: &Instr) -> u32
     ensures { result ≡ throws_before instr.now }
 {
     if instr.reached && throws_some(&instr.op) {
@@ -71,48 +73,51 @@ fn throws_before(instr: &Instr) -> u64
     }
 }
 
-// The empty sets of the slots before each instruction of a method.
-fn method_slots(alloc: Global, method: &Method, n: u32) -> Result<Rows<Rows<TokenSet>>, Memory>
-    ensures { IfOk result (λ rows. rows ≡ empty_slots_of n method.now) }
+// Name 0 for each slot before each instruction of a method.
+fn method_slots(alloc: Global, method: &Method) -> Result<FlatRows, Memory>
+    ensures { IfOk result (λ rows. rows ≡ zero_slots_of method.now) }
 {
-    let mut rows = Rows::new(alloc);
+    let mut rows = FlatRows::new(alloc);
     for instr in method.code.as_slice() {
-        rows.push(set_row(alloc, slots_before(method, instr), n)?)?;
+        match Vec::from_elem(alloc, 0, slots_before(method, instr) as usize) {
+            Ok(names) => rows.push(names.as_slice())?,
+            Err(_) => return Err(Memory),
+        }
     }
     Ok(rows)
 }
 
-// The empty sets of what each instruction of a method throws.
-fn method_thrown(alloc: Global, method: &Method, n: u32) -> Result<Rows<Rows<TokenSet>>, Memory>
-    ensures { IfOk result (λ rows. rows ≡ empty_thrown_of n method.now) }
+// Name 0, as a number that may be no name, for each instruction of a method that may throw.
+fn method_thrown(alloc: Global, method: &Method) -> Result<Rows<u32>, Memory>
+    ensures { IfOk result (λ row. row ≡ zero_thrown_of method.now) }
+{
+    let mut row = Rows::new(alloc);
+    for instr in method.code.as_slice() {
+        row.push(throws_before(instr))?;
+    }
+    Ok(row)
+}
+
+/// Name 0 for each slot before each instruction of each method.
+pub fn slot_names(alloc: Global, p: &Program) -> Result<Rows<FlatRows>, Memory>
+    ensures { IfOk result (λ table. table ≡ map zero_slots_of p.now.methods) }
+{
+    let mut table = Rows::new(alloc);
+    for method in p.methods().as_slice() {
+        table.push(method_slots(alloc, method)?)?;
+    }
+    Ok(table)
+}
+
+/// Name 0, as a number that may be no name, for each instruction of each method that may throw.
+pub fn thrown_names(alloc: Global, p: &Program) -> Result<Rows<Rows<u32>>, Memory>
+    ensures { IfOk result (λ rows. rows ≡ map zero_thrown_of p.now.methods) }
 {
     let mut rows = Rows::new(alloc);
-    for instr in method.code.as_slice() {
-        rows.push(set_row(alloc, throws_before(instr), n)?)?;
+    for method in p.methods().as_slice() {
+        rows.push(method_thrown(alloc, method)?)?;
     }
     Ok(rows)
-}
-
-/// The empty sets of the slots before each instruction of each method.
-pub fn slot_sets(alloc: Global, p: &Program, n: u32) -> Result<Rows<Rows<Rows<TokenSet>>>, Memory>
-    ensures { IfOk result (λ table. table ≡ map (empty_slots_of n) p.now.methods) }
-{
-    let mut table = Rows::new(alloc);
-    for method in p.methods().as_slice() {
-        table.push(method_slots(alloc, method, n)?)?;
-    }
-    Ok(table)
-}
-
-/// The empty sets of what each instruction of each method throws.
-pub fn thrown_sets(alloc: Global, p: &Program, n: u32) -> Result<Rows<Rows<Rows<TokenSet>>>, Memory>
-    ensures { IfOk result (λ table. table ≡ map (empty_thrown_of n) p.now.methods) }
-{
-    let mut table = Rows::new(alloc);
-    for method in p.methods().as_slice() {
-        table.push(method_thrown(alloc, method, n)?)?;
-    }
-    Ok(table)
 }
 
 /// The empty sets of the parameters of each method.

@@ -1,10 +1,11 @@
-ghost use Rattle.std.specs.Prelude.{◌≡◌, ◌<◌, [], length, slice_index_or, IfOk};
+ghost use Rattle.std.specs.Prelude.{◌≡◌, ◌<◌, [], length, slice_get, slice_index_or, IfOk};
 ghost use Rattle.std.specs.Borrow.{sem};
 ghost use Rattle.ja_facts.specs.ClassTables.{slot_set, thrown_set, param_set, result_set, out_set, field_set, bag_set, empty_classes};
-ghost use Rattle.ja_facts.specs.Listing.{count_at};
+ghost use Rattle.ja_facts.specs.Shared.{named_table, option_rows};
 
-use crate::build::{param_sets, set_row, slot_sets, thrown_sets, token_count};
-use crate::rows::{Rows, lend_listed, lend_listed_in, listed, listed_in};
+use crate::build::{param_sets, set_row, slot_names, thrown_names, token_count};
+use crate::flat::FlatRows;
+use crate::rows::{Rows, lend_listed_in, listed_in, option_named};
 use ja_base::{FieldId, Memory, MethodId};
 use ja_ir::{Program, Token};
 use ja_sets::TokenSet;
@@ -16,11 +17,15 @@ use std::marker::Model;
 ///
 /// Before an instruction that the kinds do not reach there are no sets of slots, and above the stack
 /// there are none either; they are read as the empty set.
+///
+/// The sets of slots and of what is thrown stand in a pool, in which equal sets can be one: each is
+/// named by its place there.
 #[derive(Drop)]
 pub struct ClassSets {
-    slots: Rows<Rows<Rows<TokenSet>>>,
-    // One set for each reached instruction that may throw.
-    thrown: Rows<Rows<Rows<TokenSet>>>,
+    slots: Rows<FlatRows>,
+    // For each instruction 0, or one more than the name of a set: each reached one that may throw has one.
+    thrown: Rows<Rows<u32>>,
+    pool: Rows<TokenSet>,
     params: Rows<Rows<TokenSet>>,
     results: Rows<TokenSet>,
     outs: Rows<TokenSet>,
@@ -31,22 +36,24 @@ pub struct ClassSets {
 
 impl Model for ClassSets {
     ghost use Rattle.ja_facts.specs.ClassTables.{ClassTable};
+    ghost use Rattle.ja_facts.specs.Shared.{named_table, option_rows};
 
     ghost Value = { ClassTable };
 
-    ghost view = { λ sets. record { slots = sets.slots; thrown = sets.thrown; params = sets.params; results = sets.results; outs = sets.outs; fields = sets.fields; bags = sets.bags; none = sets.none } };
+    ghost view = { λ sets. record { slots = named_table sets.pool sets.none sets.slots; thrown = option_rows sets.pool sets.none sets.thrown; params = sets.params; results = sets.results; outs = sets.outs; fields = sets.fields; bags = sets.bags; none = sets.none } };
 }
 
 impl ClassSets {
-    ghost use Rattle.ja_facts.specs.ClassLending.{LendsSlot, LendsThrown, LendsParam, LendsResult, LendsOut, LendsField, LendsBag};
+    ghost use Rattle.ja_facts.specs.ClassLending.{LendsParam, LendsResult, LendsOut, LendsField, LendsBag};
 
     /// The sets of a program, all of them empty.
     pub fn new(alloc: Global, p: &Program) -> Result<ClassSets, Memory>
         ensures { IfOk result (λ sets. sets ≡ empty_classes p.now) }
     {
         let n = token_count(p);
-        let slots = slot_sets(alloc, p, n)?;
-        let thrown = thrown_sets(alloc, p, n)?;
+        let slots = slot_names(alloc, p)?;
+        let thrown = thrown_names(alloc, p)?;
+        let pool = Rows::new(alloc);
         let params = param_sets(alloc, p, n)?;
         let results = set_row(alloc, p.methods().len(), n)?;
         let outs = set_row(alloc, p.methods().len(), n)?;
@@ -56,6 +63,7 @@ impl ClassSets {
         Ok(ClassSets {
             slots,
             thrown,
+            pool,
             params,
             results,
             outs,
@@ -70,14 +78,17 @@ impl ClassSets {
     pub fn slot(&self, m: MethodId, i: u32, z: u32) -> &TokenSet
         ensures { result.now ≡ slot_set self.now m.0 i z }
     {
-        listed(&self.slots, m.0, i, z, &self.none)
+        match name_in(&self.slots, m.0, i, z) {
+            Some(name) => self.pool.at_or(name as u64, &self.none),
+            None => &self.none,
+        }
     }
 
     /// The set of what instruction `i` of a method throws.
     pub fn thrown(&self, m: MethodId, i: u32) -> &TokenSet
         ensures { result.now ≡ thrown_set self.now m.0 i }
     {
-        listed(&self.thrown, m.0, i, 0, &self.none)
+        option_named(&self.pool, *listed_in(&self.thrown, m.0, i, &0), &self.none)
     }
 
     /// The set of parameter `k` of a method, where a receiver is parameter 0.
@@ -115,23 +126,16 @@ impl ClassSets {
         self.bags.at_or(t.0 as u64, &self.none)
     }
 
-    /// The set of a slot before a reached instruction, for writing. The slot is a local, or one of the
-    /// values that are on the stack there.
-    pub fn slot_mut(&mut self, m: MethodId, i: u32, z: u32) -> &mut TokenSet
-        requires { z < count_at self.old.slots m.0 i }
-        ensures* writes_back { sem 𝓛 (LendsSlot self.entry m.0 i z result) }
-        ensures value { result.now ≡ slot_set self.old m.0 i z }
+    /// Takes the sets of slots and of what is thrown from a pool, in which they are named by their
+    /// places: `slots` has the names of the slots before each instruction of each method, and `thrown`
+    /// for each instruction one more than the name, or 0 where it throws nothing. A name without a set
+    /// in the pool stands for the empty set.
+    pub fn share(&mut self, slots: Rows<FlatRows>, thrown: Rows<Rows<u32>>, pool: Rows<TokenSet>)
+        ensures { self.new ≡ record self.old { slots = named_table pool self.old.none slots; thrown = option_rows pool self.old.none thrown } }
     {
-        lend_listed(&mut self.slots, m.0, i, z)
-    }
-
-    /// The set of what a reached instruction that may throw throws, for writing.
-    pub fn thrown_mut(&mut self, m: MethodId, i: u32) -> &mut TokenSet
-        requires { 0 < count_at self.old.thrown m.0 i }
-        ensures* writes_back { sem 𝓛 (LendsThrown self.entry m.0 i result) }
-        ensures value { result.now ≡ thrown_set self.old m.0 i }
-    {
-        lend_listed(&mut self.thrown, m.0, i, 0)
+        self.slots = slots;
+        self.thrown = thrown;
+        self.pool = pool;
     }
 
     /// The set of a parameter, for writing.
@@ -177,5 +181,16 @@ impl ClassSets {
         ensures value { result.now ≡ bag_set self.old t.0 }
     {
         self.bags.at_mut(t.0 as u64)
+    }
+}
+
+// The name of a slot before an instruction of a method, if there is one.
+fn name_in(slots: &Rows<FlatRows>, m: u32, i: u32, z: u32) -> Option<u32>
+    ensures { result ≡ slice_get (slice_index_or (slice_index_or slots.now m []) i []) z }
+{
+    if (m as u64) < slots.len() {
+        slots.at(m as u64).at(i as u64, z as u64)
+    } else {
+        None
     }
 }

@@ -1,11 +1,11 @@
 ghost use Rattle.std.specs.Prelude.{◌≡◌, ◌<◌, ◌↔◌, [], false, true, length, map, replicate, slice_index_or, IfOk, IsTrue};
-ghost use Rattle.std.specs.Borrow.{sem};
 ghost use Rattle.ja_ir.specs.declared.method.Method.{Method};
-ghost use Rattle.ja_facts.specs.FactTables.{is_reached, targets_at, takers_at, calls_of, no_targets, no_targets_of, no_takers_of, empty_graph};
-ghost use Rattle.ja_facts.specs.Listing.{count_at, with_listed_in};
+ghost use Rattle.ja_facts.specs.FactTables.{is_reached, targets_at, takers_at, calls_of, no_targets, empty_graph};
+ghost use Rattle.ja_facts.specs.Listing.{with_listed_in};
+ghost use Rattle.ja_facts.specs.Shared.{option_rows, zero_calls_of};
 
-use crate::build::{flag_row, set_row, token_count};
-use crate::rows::{Rows, lend_listed, lend_listed_in, listed, listed_in};
+use crate::build::{flag_row, token_count};
+use crate::rows::{Rows, lend_listed_in, listed_in, option_named};
 use crate::targets::Targets;
 use ja_base::{Memory, MethodId};
 use ja_ir::{Method, Op, Program};
@@ -16,13 +16,16 @@ use std::marker::Model;
 /// Which instructions may run, where calls may go, and which objects may take the arguments of calls
 /// of the library.
 ///
-/// Only calls have targets and takers; those of another instruction are read as none.
+/// Only calls have targets and takers; those of another instruction are read as none. They stand in
+/// pools, in which equal ones can be one.
 #[derive(Drop)]
 pub struct CallGraph {
     reached: Rows<Rows<bool>>,
-    // One item for each call.
-    targets: Rows<Rows<Rows<Targets>>>,
-    takers: Rows<Rows<Rows<TokenSet>>>,
+    // For each instruction 0, or one more than the place in the pool: each call has one.
+    targets: Rows<Rows<u32>>,
+    target_pool: Rows<Targets>,
+    takers: Rows<Rows<u32>>,
+    taker_pool: Rows<TokenSet>,
     nowhere: Targets,
     none: TokenSet,
 }
@@ -30,30 +33,31 @@ pub struct CallGraph {
 impl Model for CallGraph {
     ghost use Rattle.std.specs.Prelude.{◌≡◌};
     ghost use Rattle.ja_facts.specs.FactTables.{GraphTable, no_targets};
+    ghost use Rattle.ja_facts.specs.Shared.{option_rows};
 
     ghost Value = { GraphTable };
 
-    ghost view = { λ graph. record { reached = graph.reached; targets = graph.targets; takers = graph.takers; none = graph.none } };
+    ghost view = { λ graph. record { reached = graph.reached; targets = option_rows graph.target_pool graph.nowhere graph.targets; takers = option_rows graph.taker_pool graph.none graph.takers; none = graph.none } };
 
     ghost invariant = { λ graph. graph.nowhere ≡ no_targets };
 }
 
 impl CallGraph {
-    ghost use Rattle.ja_facts.specs.FactLending.{LendsTargets, LendsTakers};
-
     /// The graph of a program in which nothing is reached and no call goes anywhere.
     pub fn new(alloc: Global, p: &Program) -> Result<CallGraph, Memory>
         ensures { IfOk result (λ graph. graph ≡ empty_graph p.now) }
     {
         let n = token_count(p);
         let reached = reached_flags(alloc, p)?;
-        let targets = target_rows(alloc, p)?;
-        let takers = taker_rows(alloc, p, n)?;
+        let targets = call_names(alloc, p)?;
+        let takers = call_names(alloc, p)?;
         let none = TokenSet::new(alloc, n)?;
         Ok(CallGraph {
             reached,
             targets,
+            target_pool: Rows::new(alloc),
             takers,
+            taker_pool: Rows::new(alloc),
             nowhere: Targets::new(alloc),
             none,
         })
@@ -81,16 +85,18 @@ impl CallGraph {
     pub fn targets(&self, m: MethodId, i: u32) -> &Targets
         ensures { result.now ≡ targets_at self.now m.0 i }
     {
-        listed(&self.targets, m.0, i, 0, &self.nowhere)
+        let number = *listed_in(&self.targets, m.0, i, &0);
+        option_named(&self.target_pool, number, &self.nowhere)
     }
 
-    /// Where a call may go, for writing.
-    pub fn targets_mut(&mut self, m: MethodId, i: u32) -> &mut Targets
-        requires { 0 < count_at self.old.targets m.0 i }
-        ensures* writes_back { sem 𝓛 (LendsTargets self.entry m.0 i result) }
-        ensures value { result.now ≡ targets_at self.old m.0 i }
+    /// Takes where calls may go from a pool: for each instruction of each method one more than the
+    /// place of its targets there, or 0 where it goes nowhere. A place that the pool does not have
+    /// stands for no target.
+    pub fn share_targets(&mut self, numbers: Rows<Rows<u32>>, pool: Rows<Targets>)
+        ensures { self.new ≡ record self.old { targets = option_rows pool no_targets numbers } }
     {
-        lend_listed(&mut self.targets, m.0, i, 0)
+        self.targets = numbers;
+        self.target_pool = pool;
     }
 
     /// The tokens of the objects that may take the arguments of the call in instruction `i` of a
@@ -98,21 +104,23 @@ impl CallGraph {
     pub fn takers(&self, m: MethodId, i: u32) -> &TokenSet
         ensures { result.now ≡ takers_at self.now m.0 i }
     {
-        listed(&self.takers, m.0, i, 0, &self.none)
+        let number = *listed_in(&self.takers, m.0, i, &0);
+        option_named(&self.taker_pool, number, &self.none)
     }
 
-    /// The takers of a call, for writing.
-    pub fn takers_mut(&mut self, m: MethodId, i: u32) -> &mut TokenSet
-        requires { 0 < count_at self.old.takers m.0 i }
-        ensures* writes_back { sem 𝓛 (LendsTakers self.entry m.0 i result) }
-        ensures value { result.now ≡ takers_at self.old m.0 i }
+    /// Takes the takers of calls from a pool: for each instruction of each method one more than the
+    /// place of its takers there, or 0 where there is none. A place that the pool does not have stands
+    /// for the empty set.
+    pub fn share_takers(&mut self, numbers: Rows<Rows<u32>>, pool: Rows<TokenSet>)
+        ensures { self.new ≡ record self.old { takers = option_rows pool self.old.none numbers } }
     {
-        lend_listed(&mut self.takers, m.0, i, 0)
+        self.takers = numbers;
+        self.taker_pool = pool;
     }
 }
 
 // 1 for a call, 0 for another operation.
-fn calls_of(op: &Op) -> u64
+fn calls_of(op: &Op) -> u32
     ensures { result ≡ calls_of op.now }
 {
     match op {
@@ -132,57 +140,24 @@ fn reached_flags(alloc: Global, p: &Program) -> Result<Rows<Rows<bool>>, Memory>
     Ok(rows)
 }
 
-// So many items without targets.
-fn target_row(alloc: Global, count: u64) -> Result<Rows<Targets>, Memory>
-    ensures { IfOk result (λ row. row ≡ replicate count no_targets) }
+// Name 0, as a number that may be no name, for each call of a method.
+fn method_calls(alloc: Global, method: &Method) -> Result<Rows<u32>, Memory>
+    ensures { IfOk result (λ row. row ≡ zero_calls_of method.now) }
 {
     let mut row = Rows::new(alloc);
-    for _i in 0..count {
-        row.push(Targets::new(alloc))?;
+    for instr in method.code.as_slice() {
+        row.push(calls_of(&instr.op))?;
     }
     Ok(row)
 }
 
-// An item without targets for each call of a method.
-fn method_targets(alloc: Global, method: &Method) -> Result<Rows<Rows<Targets>>, Memory>
-    ensures { IfOk result (λ rows. rows ≡ no_targets_of method.now) }
+// Name 0, as a number that may be no name, for each call.
+fn call_names(alloc: Global, p: &Program) -> Result<Rows<Rows<u32>>, Memory>
+    ensures { IfOk result (λ rows. rows ≡ map zero_calls_of p.now.methods) }
 {
     let mut rows = Rows::new(alloc);
-    for instr in method.code.as_slice() {
-        rows.push(target_row(alloc, calls_of(&instr.op))?)?;
+    for method in p.methods().as_slice() {
+        rows.push(method_calls(alloc, method)?)?;
     }
     Ok(rows)
-}
-
-// An item without targets for each call.
-fn target_rows(alloc: Global, p: &Program) -> Result<Rows<Rows<Rows<Targets>>>, Memory>
-    ensures { IfOk result (λ table. table ≡ map no_targets_of p.now.methods) }
-{
-    let mut table = Rows::new(alloc);
-    for method in p.methods().as_slice() {
-        table.push(method_targets(alloc, method)?)?;
-    }
-    Ok(table)
-}
-
-// An empty set for each call of a method.
-fn method_takers(alloc: Global, method: &Method, n: u32) -> Result<Rows<Rows<TokenSet>>, Memory>
-    ensures { IfOk result (λ rows. rows ≡ no_takers_of n method.now) }
-{
-    let mut rows = Rows::new(alloc);
-    for instr in method.code.as_slice() {
-        rows.push(set_row(alloc, calls_of(&instr.op), n)?)?;
-    }
-    Ok(rows)
-}
-
-// An empty set for each call.
-fn taker_rows(alloc: Global, p: &Program, n: u32) -> Result<Rows<Rows<Rows<TokenSet>>>, Memory>
-    ensures { IfOk result (λ table. table ≡ map (no_takers_of n) p.now.methods) }
-{
-    let mut table = Rows::new(alloc);
-    for method in p.methods().as_slice() {
-        table.push(method_takers(alloc, method, n)?)?;
-    }
-    Ok(table)
 }

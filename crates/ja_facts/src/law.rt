@@ -17,7 +17,7 @@ ghost use Rattle.ja_facts.specs.FactTables.{GraphTable, HeldTable, empty_graph, 
 ghost use Rattle.ja_facts.specs.Told.{TellsSets, TellsGraph, TellsHeld, TellsHeap, TellsReach, IsKeptSets, IsKeptGraph, IsKeptReach};
 ghost use Rattle.ja_ir.specs.declared.entry.Entry.{Entry};
 ghost use Rattle.ja_ir.specs.declared.entry.Site.{Site};
-ghost use Rattle.ja_facts.specs.Marks.{MarkMore, with_entries};
+ghost use Rattle.ja_facts.specs.MarkedPositions.{MarkMorePositions, with_entries};
 ghost use Rattle.ja_facts.specs.Equations.{Fact, Rule, Rules, Taints, Context, At, Stored, Threw, Normal, IsWarned};
 ghost use Rattle.ja_facts.specs.Example.{example, nothing, example_site, only_lowest, clean_return, tainted_throw};
 ghost use Rattle.ja_facts.specs.Verdict.{AreVerdicts, report_text, total_text, printed, site_line};
@@ -84,8 +84,8 @@ pub fn law_empty_tells_nothing()
 
 /// Where the entries of the program of one category mark more positions, the equations lose no fact, at
 /// the same class sets, held cells, pairs, effects and reachability.
-pub fn law_marks_lose_nothing()
-    ensures { (p : Parts) (entries : List Entry) → MarkMore p.entries entries → (f : Fact) → Least (Rule p (analyses_of p)) f → Least (Rule (with_entries p entries) (analyses_of p)) f }
+pub fn law_more_positions_lose_nothing()
+    ensures { (p : Parts) (entries : List Entry) → MarkMorePositions p.entries entries → (f : Fact) → Least (Rule p (analyses_of p)) f → Least (Rule (with_entries p entries) (analyses_of p)) f }
 {}
 
 /// The least pairs for the effects of the least joint solution are its pairs, and the least effects for

@@ -5,6 +5,7 @@ mod build;
 mod classes;
 mod effects;
 mod facts;
+mod flat;
 mod graph;
 mod holds;
 mod law;
@@ -16,11 +17,12 @@ mod targets;
 pub use classes::ClassSets;
 pub use effects::Effects;
 pub use facts::{Facts, var_of};
+pub use flat::FlatRows;
 pub use graph::CallGraph;
 pub use holds::Holds;
 pub use law::{
     law_empty_heaps_tell_nothing, law_empty_tells_nothing, law_example, law_joint_is_fixed,
-    law_least_is_below, law_least_is_solution, law_load_moves, law_marks_lose_nothing,
+    law_least_is_below, law_least_is_solution, law_load_moves, law_more_positions_lose_nothing,
     law_nothing_warns, law_report_without_sites, law_rounds_add, law_tables_tell_kept,
 };
 pub use pairs::{Pairs, Reach};

@@ -1,9 +1,10 @@
-ghost use Rattle.std.specs.Prelude.{◌≡◌, ◌<◌, ◌^◌, [], Some, length, replicate, slice_get, slice_index_or, IfOk, IfSome};
-ghost use Rattle.std.specs.Borrow.{sem};
-ghost use Rattle.ja_facts.specs.FactTables.{name_count, live_count, no_pairs, no_pairs_of, no_reach_of, empty_pairs, empty_reach};
+ghost use Rattle.std.specs.Prelude.{◌≡◌, ◌<◌, ◌^◌, [], Some, length, map, replicate, slice_get, slice_index_or, IfOk, IfSome};
+ghost use Rattle.ja_ir.specs.declared.method.Method.{Method};
+ghost use Rattle.ja_facts.specs.FactTables.{name_count, live_count, no_pairs, empty_pairs, empty_reach};
+ghost use Rattle.ja_facts.specs.Shared.{named_rows, method_names};
 
 use crate::params::param_count;
-use crate::rows::{Rows, lend_listed_in};
+use crate::rows::{Rows, listed_in};
 use ja_base::{Memory, MethodId};
 use ja_ir::{Method, Program};
 use ja_sets::PairSet;
@@ -15,31 +16,33 @@ use std::marker::Model;
 /// The names of a method are numbered: the slots, which are the locals, the values on the stack and
 /// those for what was stored and for what is thrown; then the static fields; then what each parameter
 /// reached when the method began, and what the static fields did. A pair stands in both orders.
+///
+/// The sets stand in a pool, in which equal sets can be one.
 #[derive(Drop)]
 pub struct Pairs {
-    sets: Rows<Rows<PairSet>>,
+    names: Rows<Rows<u32>>,
+    pool: Rows<PairSet>,
+    none: PairSet,
 }
 
 impl Model for Pairs {
     ghost use Rattle.std.specs.Prelude.{List, Bool};
+    ghost use Rattle.ja_facts.specs.Shared.{named_rows};
 
     ghost Value = { List (List (List (List Bool))) };
 
-    ghost view = { λ pairs. pairs.sets };
+    ghost view = { λ pairs. named_rows pairs.pool pairs.none pairs.names };
 }
 
 impl Pairs {
-    ghost use Rattle.ja_facts.specs.FactLending.{LendsPairs};
-
     /// The pairs of a program: none.
     pub fn new(alloc: Global, p: &Program) -> Result<Pairs, Memory>
         ensures { IfOk result (λ pairs. pairs ≡ empty_pairs p.now) }
     {
-        let mut sets = Rows::new(alloc);
-        for method in p.methods().as_slice() {
-            sets.push(method_pairs(alloc, method)?)?;
-        }
-        Ok(Pairs { sets })
+        let names = method_names(alloc, p)?;
+        let pool = pair_pool(alloc, p)?;
+        let none = PairSet::new(alloc, 0)?;
+        Ok(Pairs { names, pool, none })
     }
 
     /// The pairs before instruction `i` of a method.
@@ -47,17 +50,17 @@ impl Pairs {
         requires { i < length (slice_index_or self.now m.0 []) }
         ensures { slice_get (slice_index_or self.now m.0 []) i ≡ Some result.now }
     {
-        let row = self.sets.at(m.0 as u64);
-        row.at(i as u64)
+        let name = *listed_in(&self.names, m.0, i, &0);
+        self.pool.at_or(name as u64, &self.none)
     }
 
-    /// The pairs before an instruction, for writing.
-    pub fn at_mut(&mut self, m: MethodId, i: u32) -> &mut PairSet
-        requires { i < length (slice_index_or self.old m.0 []) }
-        ensures* writes_back { sem 𝓛 (LendsPairs self.entry m.0 i result) }
-        ensures value { slice_get (slice_index_or self.old m.0 []) i ≡ Some result.now }
+    /// The sets of a pool, in which they are named by their places: `names` has a name for each
+    /// instruction of each method. A name without a set in the pool stands for `none`. It takes no
+    /// memory.
+    pub fn shared(names: Rows<Rows<u32>>, pool: Rows<PairSet>, none: PairSet) -> Pairs
+        ensures { result ≡ named_rows pool none names }
     {
-        lend_listed_in(&mut self.sets, m.0, i)
+        Pairs { names, pool, none }
     }
 }
 
@@ -65,31 +68,33 @@ impl Pairs {
 ///
 /// The first of a pair is the number of a slot or, after all slots, that of the static fields; the
 /// second is the number of a slot.
+///
+/// The sets stand in a pool, in which equal sets can be one.
 #[derive(Drop)]
 pub struct Reach {
-    sets: Rows<Rows<PairSet>>,
+    names: Rows<Rows<u32>>,
+    pool: Rows<PairSet>,
+    none: PairSet,
 }
 
 impl Model for Reach {
     ghost use Rattle.std.specs.Prelude.{List, Bool};
+    ghost use Rattle.ja_facts.specs.Shared.{named_rows};
 
     ghost Value = { List (List (List (List Bool))) };
 
-    ghost view = { λ reach. reach.sets };
+    ghost view = { λ reach. named_rows reach.pool reach.none reach.names };
 }
 
 impl Reach {
-    ghost use Rattle.ja_facts.specs.FactLending.{LendsReach};
-
     /// The pairs of a program: none.
     pub fn new(alloc: Global, p: &Program) -> Result<Reach, Memory>
         ensures { IfOk result (λ reach. reach ≡ empty_reach p.now) }
     {
-        let mut sets = Rows::new(alloc);
-        for method in p.methods().as_slice() {
-            sets.push(method_reach(alloc, method)?)?;
-        }
-        Ok(Reach { sets })
+        let names = method_names(alloc, p)?;
+        let pool = reach_pool(alloc, p)?;
+        let none = PairSet::new(alloc, 0)?;
+        Ok(Reach { names, pool, none })
     }
 
     /// The pairs before instruction `i` of a method.
@@ -97,17 +102,17 @@ impl Reach {
         requires { i < length (slice_index_or self.now m.0 []) }
         ensures { slice_get (slice_index_or self.now m.0 []) i ≡ Some result.now }
     {
-        let row = self.sets.at(m.0 as u64);
-        row.at(i as u64)
+        let name = *listed_in(&self.names, m.0, i, &0);
+        self.pool.at_or(name as u64, &self.none)
     }
 
-    /// The pairs before an instruction, for writing.
-    pub fn at_mut(&mut self, m: MethodId, i: u32) -> &mut PairSet
-        requires { i < length (slice_index_or self.old m.0 []) }
-        ensures* writes_back { sem 𝓛 (LendsReach self.entry m.0 i result) }
-        ensures value { slice_get (slice_index_or self.old m.0 []) i ≡ Some result.now }
+    /// The sets of a pool, in which they are named by their places: `names` has a name for each
+    /// instruction of each method. A name without a set in the pool stands for `none`. It takes no
+    /// memory.
+    pub fn shared(names: Rows<Rows<u32>>, pool: Rows<PairSet>, none: PairSet) -> Reach
+        ensures { result ≡ named_rows pool none names }
     {
-        lend_listed_in(&mut self.sets, m.0, i)
+        Reach { names, pool, none }
     }
 }
 
@@ -134,35 +139,69 @@ fn name_count(method: &Method) -> Option<u32>
     Some(count as u32)
 }
 
-// So many empty sets of pairs of numbers below `n`.
-fn pair_row(alloc: Global, count: u64, n: u32) -> Result<Rows<PairSet>, Memory>
-    ensures { IfOk result (λ row. row ≡ replicate count (no_pairs n)) }
+// For each instruction of each method the number of its method.
+fn method_names(alloc: Global, p: &Program) -> Result<Rows<Rows<u32>>, Memory>
+    ensures { IfOk result (λ names. names ≡ method_names 0 p.now.methods) }
+{
+    let methods = p.methods().as_slice();
+    let mut names = Rows::new(alloc);
+    for m in 0..methods.len() {
+        names.push(name_row(alloc, methods[m].code.len(), m as u32)?)?;
+    }
+    Ok(names)
+}
+
+// So many times this name.
+fn name_row(alloc: Global, count: u64, name: u32) -> Result<Rows<u32>, Memory>
+    ensures { IfOk result (λ row. row ≡ replicate count name) }
 {
     let mut row = Rows::new(alloc);
     for _i in 0..count {
-        row.push(PairSet::new(alloc, n)?)?;
+        row.push(name)?;
     }
     Ok(row)
 }
 
-// The empty sets of pairs of a method's names. No memory holds a set of pairs of 2^32 numbers and
+// The empty set of pairs of a method's names. No memory holds a set of pairs of 2^32 numbers and
 // more, which would take 2^64 bits.
-fn method_pairs(alloc: Global, method: &Method) -> Result<Rows<PairSet>, Memory>
-    ensures { IfOk result (λ row. row ≡ no_pairs_of method.now) }
+fn method_pairs(alloc: Global, method: &Method) -> Result<PairSet, Memory>
+    ensures { IfOk result (λ set. set ≡ no_pairs (name_count method.now)) }
 {
     match name_count(method) {
-        Some(n) => pair_row(alloc, method.code.len(), n),
+        Some(n) => PairSet::new(alloc, n),
         None => Err(Memory),
     }
 }
 
-// The empty sets of pairs of a method's slots and the static fields.
-fn method_reach(alloc: Global, method: &Method) -> Result<Rows<PairSet>, Memory>
-    ensures { IfOk result (λ row. row ≡ no_reach_of method.now) }
+// The empty set of pairs of a method's slots and the static fields.
+fn method_reach(alloc: Global, method: &Method) -> Result<PairSet, Memory>
+    ensures { IfOk result (λ set. set ≡ no_pairs (live_count method.now)) }
 {
     let n = live_count(method);
     if n > u32::MAX as u64 {
         return Err(Memory);
     }
-    pair_row(alloc, method.code.len(), n as u32)
+    PairSet::new(alloc, n as u32)
+}
+
+// For each method an empty set of pairs of its names.
+fn pair_pool(alloc: Global, p: &Program) -> Result<Rows<PairSet>, Memory>
+    ensures { IfOk result (λ pool. pool ≡ map (λ (method : Method). no_pairs (name_count method)) p.now.methods) }
+{
+    let mut pool = Rows::new(alloc);
+    for method in p.methods().as_slice() {
+        pool.push(method_pairs(alloc, method)?)?;
+    }
+    Ok(pool)
+}
+
+// For each method an empty set of pairs of its slots and the static fields.
+fn reach_pool(alloc: Global, p: &Program) -> Result<Rows<PairSet>, Memory>
+    ensures { IfOk result (λ pool. pool ≡ map (λ (method : Method). no_pairs (live_count method)) p.now.methods) }
+{
+    let mut pool = Rows::new(alloc);
+    for method in p.methods().as_slice() {
+        pool.push(method_reach(alloc, method)?)?;
+    }
+    Ok(pool)
 }

@@ -1,8 +1,8 @@
 ghost use Rattle.std.specs.Prelude.{◌≡◌, [], ◌∷◌, ◌++◌, ◌<◌, Some, length, slice_get, slice_index_or, OnOk, OnErr};
 ghost use Rattle.std.specs.Borrow.{sem};
 ghost use Rattle.ja_facts.specs.Lending.{LendsItem};
-ghost use Rattle.ja_facts.specs.Listing.{listed_at, count_at};
-ghost use Rattle.ja_facts.specs.ListLending.{LendsListed, LendsListedIn};
+ghost use Rattle.ja_facts.specs.ListLending.{LendsListedIn};
+ghost use Rattle.ja_facts.specs.Shared.{option_named};
 
 use ja_base::Memory;
 use std::alloc::Global;
@@ -95,21 +95,15 @@ pub fn listed_in<'a, T>(rows: &'a Rows<Rows<T>>, row: u32, k: u32, none: &'a T) 
     }
 }
 
-/// The item with number `k` that a table lists at a row and a column, and another one where it lists
-/// none.
-pub fn listed<'a, T>(
-    table: &'a Rows<Rows<Rows<T>>>,
-    row: u32,
-    column: u32,
-    k: u32,
-    none: &'a T,
-) -> &'a T
-    ensures { result.now ≡ listed_at table.now row column k none.now }
+/// The item that a number says which may be no name: another one where the number is 0 or the pool
+/// has no such item, and else the item whose name is one less.
+pub fn option_named<'a, T>(pool: &'a Rows<T>, number: u32, none: &'a T) -> &'a T
+    ensures { result.now ≡ slice_index_or (option_named pool.now none.now number) 0 none.now }
 {
-    if (row as u64) < table.len() {
-        listed_in(table.at(row as u64), column, k, none)
-    } else {
+    if number == 0 {
         none
+    } else {
+        pool.at_or((number - 1) as u64, none)
     }
 }
 
@@ -121,14 +115,4 @@ pub fn lend_listed_in<T>(rows: &mut Rows<Rows<T>>, row: u32, k: u32) -> &mut T
 {
     let items = rows.at_mut(row as u64);
     items.at_mut(k as u64)
-}
-
-/// The item with number `k` that a table lists at a row and a column, for writing.
-pub fn lend_listed<T>(table: &mut Rows<Rows<Rows<T>>>, row: u32, column: u32, k: u32) -> &mut T
-    requires { k < count_at table.old row column }
-    ensures* writes_back { sem 𝓛 (LendsListed T.row table.entry row column k result) }
-    ensures value { slice_get (slice_index_or (slice_index_or table.old row []) column []) k ≡ Some result.now }
-{
-    let rows = table.at_mut(row as u64);
-    lend_listed_in(rows, column, k)
 }

@@ -29,8 +29,8 @@ pub record AreSelections (heads : List ClassHead) (c : ℕ) (supers : List Class
   pub signatures : map selected selections ≡ first_seen (signatures_of heads (own_first c (numbers_of supers)))
   pub targets : All (λ selection. Finds heads NotVirtual selection.name selection.desc c selection.target) selections
 
--- what a program says of class c, which stands in the file of this path; it is initialised by the class initialisers of the classes at or above it,
--- in the order of their numbers (JVM specification 5.5)
+-- what a program says of class c, which stands in the file of this path. Its class initialisers are those of the classes at or above it
+-- (JVM specification 5.5); they are listed in the order of the classes' numbers, which says nothing of the order in which they run
 pub record IsClassInfo (heads : List ClassHead) (path : List ℕ) (c : ℕ) (info : ClassInfo) : Type 0 where
   pub head : ClassHead
   pub found : slice_get heads c ≡ Some head

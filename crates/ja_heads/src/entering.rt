@@ -4,10 +4,9 @@ ghost use Rattle.ja_hier.specs.Members.{count_of};
 ghost use Rattle.ja_heads.specs.Entries as specs;
 ghost use Rattle.ja_heads.specs.Entries.{CanBeMade, Enters, EntersOnObject, EntersStatic, HasLibraryType, IsForClass, is_entry_point};
 
-use crate::flags::{is_abstract, is_static};
 use ja_base::{ClassId, MethodId, Name};
 use ja_hier::Hier;
-use ja_ir::{ClassHead, HeadMethod, MethodAt};
+use ja_ir::{ClassHead, HeadMethod, MethodAt, is_abstract, is_static};
 use ja_lib::EntryRow;
 
 /// The method that a row makes an entry of a class, whose methods are numbered from `first` on.

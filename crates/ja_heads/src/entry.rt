@@ -5,10 +5,9 @@ ghost use Rattle.ja_heads.specs.Entries as specs;
 ghost use Rattle.ja_heads.specs.Entries.{AreEntries, ClassAdds, RowAdds, RowsAdd};
 
 use crate::entering::entering;
-use crate::flags::{is_abstract, is_interface};
-use ja_base::{ClassId, Flags, Memory, MethodId, Numbers, Seq};
+use ja_base::{ClassId, Memory, MethodId, Seq};
 use ja_hier::Hier;
-use ja_ir::{ClassHead, Entries, Entry};
+use ja_ir::{ClassHead, Entries, Entry, is_abstract, is_interface};
 use ja_lib::{EntryRow, Table};
 use std::alloc::Global;
 
@@ -114,26 +113,12 @@ fn add_row(
 fn entry(alloc: Global, class: ClassId, method: MethodId, row: &EntryRow) -> Result<Entry, Memory>
     ensures { IfOk result (λ entry. entry ≡ specs.entry_at class.0 method.0 row.now) }
 {
-    let marked = copy_numbers(alloc, row.marked.as_slice())?;
-    let marks = copy_flags(alloc, row.marks.as_slice())?;
+    let marked = Seq::copy_of(alloc, row.marked.as_slice())?;
+    let marks = Seq::copy_of(alloc, row.marks.as_slice())?;
     Ok(Entry {
         class,
         method,
         marked,
         marks,
     })
-}
-
-/// The same numbers.
-fn copy_numbers(alloc: Global, numbers: &[u64]) -> Result<Numbers, Memory>
-    ensures { IfOk result (λ copy. copy ≡ numbers.now) }
-{
-    Ok(Seq::from_vec(Vec::from_slice(alloc, numbers)?))
-}
-
-/// The same flags.
-fn copy_flags(alloc: Global, flags: &[bool]) -> Result<Flags, Memory>
-    ensures { IfOk result (λ copy. copy ≡ flags.now) }
-{
-    Ok(Seq::from_vec(Vec::from_slice(alloc, flags)?))
 }

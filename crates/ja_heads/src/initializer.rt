@@ -5,10 +5,9 @@ ghost use Rattle.ja_heads.specs.Initializers as specs;
 ghost use Rattle.ja_heads.specs.Initializers.{initializers_from, initializers_in, initializers_of};
 ghost use Rattle.ja_heads.specs.Signatures.{numbers_of};
 
-use crate::flags::{is_abstract, is_static};
 use ja_base::{ClassId, Memory, MethodId, Seq};
 use ja_hier::Hier;
-use ja_ir::{HeadMethod, MethodIds};
+use ja_ir::{HeadMethod, MethodIds, is_abstract, is_static};
 use std::alloc::Global;
 
 /// The class initialisers that these classes declare, one class after another.

@@ -6,7 +6,6 @@ mod class_info;
 mod entering;
 mod entry;
 mod field;
-mod flags;
 mod initializer;
 mod law;
 mod selection;

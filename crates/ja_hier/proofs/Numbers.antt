@@ -1,16 +1,17 @@
 -- The numbers of fields and methods fit their type.
-use Rattle.std.proofs.Common.{◌≡◌, ℕ, ◌+◌, ◌<◌, ◌≤◌, ◌^◌, zero, suc, false, List, [], ◌∷◌, length, take, get_or, refl, sym, ap, ◌∙◌, subst, arith}
+use Rattle.std.proofs.Common.{◌≡◌, ℕ, ◌+◌, ◌<◌, ◌≤◌, ◌^◌, zero, suc, Bool, false, List, [], ◌∷◌, length, take, get_or, refl, sym, ap, ◌∙◌, subst, arith}
 use Rattle.std.specs.Prelude.{◌&&◌, not, Option, Some, bytes_eq, slice_get, sum_by}
 use Rattle.std.proofs.lemmas.List.Quantifiers.{position-Some}
 use Rattle.std.proofs.lemmas.List.Sums.{sum_by_more_le, get_or-le-sum_by}
-use Rattle.std.proofs.lemmas.Option.{slice_get_within, get_or_from_slice_get}
+use Rattle.std.proofs.lemmas.Option.{slice_get_within, slice_get_read, get_or_from_slice_get}
 use Rattle.ja_ir.specs.declared.head.ClassHead.{ClassHead}
 use Rattle.ja_ir.specs.declared.head.HeadField.{HeadField}
 use Rattle.ja_ir.specs.declared.head.HeadMethod.{HeadMethod}
+use Rattle.ja_ir.specs.Lookup.{is_abstract}
 use Rattle.ja_hier.specs.declared.skip.Skip.{Skip}
 use Rattle.ja_hier.specs.declared.starts.Member.TheVariants.{Field, Method}
 use Rattle.ja_hier.specs.Index.{AreStarts}
-use Rattle.ja_hier.specs.LookUps.{fields_of, methods_of, field_in, field_number, method_in, method_number, skips}
+use Rattle.ja_hier.specs.LookUps.{fields_of, methods_of, field_in, field_number, flags_of, method_in, method_number, answer_at, answer_by, skips}
 use Rattle.ja_hier.specs.Members.{count_of}
 
 -- the number of the members before a class
@@ -73,3 +74,12 @@ pub methods-few : (heads : List ClassHead) → sum_by (count_of Method) heads �
 methods-few heads most c head found =
     let at : get_or heads c head ≡ head = get_or_from_slice_get heads c head head found in
     omega (arith, get_or-le-sum_by (count_of Method) heads c head (slice_get_within heads c head found), ap (count_of Method) at)
+
+-- a method that is read at a place of its class, as an answer
+pub answer-is : (heads : List ClassHead) (c k : ℕ) (head : ClassHead) (methods : List HeadMethod) (method : HeadMethod) (abstract : Bool) → slice_get heads c ≡ Some head → methods ≡ head.methods → k < length head.methods
+    → method ≡ get_or methods k method → abstract ≡ is_abstract method.flags → answer_by abstract (method_number heads c k) ≡ answer_at heads c k
+answer-is heads c k head methods method abstract found is lt read e =
+    let there : slice_get head.methods k ≡ Some method =
+    slice_get_read head.methods (length head.methods) k method refl lt (read ∙ ap (λ (ms : List HeadMethod). get_or ms k method) is) in
+    ap (λ (b : Bool). answer_by b (method_number heads c k))
+    (e ∙ ap (λ (o : Option HeadMethod). is_abstract (flags_of o)) (sym (ap (λ (o : Option ClassHead). slice_get (methods_of o) k) found ∙ there)))

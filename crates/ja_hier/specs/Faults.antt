@@ -1,5 +1,6 @@
 -- What a list of program classes may not have.
 use Rattle.std.specs.Prelude.{◌≡◌, ℕ, ◌==◌, ◌&&◌, Bool, true, not, List, [], ◌∷◌, Some, Contains, codes, slice_get, if◌then◌else◌}
+use Rattle.ja_base.specs.AccessFlags.{acc_public, acc_private, acc_protected}
 use Rattle.std.specs.List.{list_any}
 use Rattle.ja_ir.specs.declared.head.ClassHead.{ClassHead}
 use Rattle.ja_ir.specs.declared.head.HeadMethod.{HeadMethod}
@@ -18,15 +19,15 @@ package_of (b ∷ bytes) = if list_any (λ c. c == 47) bytes then b ∷ package_
 
 -- ACC_PUBLIC
 abbrev pub is_public : (flags : ℕ) → Bool
-is_public flags = has_flag flags 0x0001
+is_public flags = has_flag flags acc_public
 
 -- ACC_PRIVATE
 abbrev pub is_private : (flags : ℕ) → Bool
-is_private flags = has_flag flags 0x0002
+is_private flags = has_flag flags acc_private
 
 -- ACC_PROTECTED
 abbrev pub is_protected : (flags : ℕ) → Bool
-is_protected flags = has_flag flags 0x0004
+is_protected flags = has_flag flags acc_protected
 
 -- the method may be overridden, or may override one, as far as its flags go (JVM specification 5.4.5)
 abbrev pub is_virtual : (flags : ℕ) → Bool

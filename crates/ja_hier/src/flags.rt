@@ -1,39 +1,23 @@
 ghost use Rattle.std.specs.Prelude.{◌≡◌};
-ghost use Rattle.ja_ir.specs.Lookup as lookup;
 ghost use Rattle.ja_hier.specs.Faults as faults;
 ghost use Rattle.ja_hier.specs.LookUps as lookups;
 
 use crate::skip::Skip;
-
-const PUBLIC: u32 = 0x0001;
-
-const PRIVATE: u32 = 0x0002;
-
-const PROTECTED: u32 = 0x0004;
-
-const STATIC: u32 = 0x0008;
-
-const ABSTRACT: u32 = 0x0400;
-
-/// Whether the method has no code.
-pub fn is_abstract(flags: u32) -> bool
-    ensures { result ≡ lookup.is_abstract flags }
-{
-    flags & ABSTRACT != 0
-}
+use ja_base::access_flags::{PRIVATE, PROTECTED, PUBLIC, STATIC};
+use ja_ir::is_abstract;
 
 /// Whether the method is neither private nor static.
 pub fn is_virtual(flags: u32) -> bool
     ensures { result ≡ faults.is_virtual flags }
 {
-    flags & PRIVATE == 0 && flags & STATIC == 0
+    flags & u32::from(PRIVATE) == 0 && flags & u32::from(STATIC) == 0
 }
 
 /// Whether only classes of the same package may override the method.
 pub fn is_package_private(flags: u32) -> bool
     ensures { result ≡ faults.is_package_private flags }
 {
-    flags & PUBLIC == 0 && flags & PROTECTED == 0 && is_virtual(flags)
+    flags & u32::from(PUBLIC) == 0 && flags & u32::from(PROTECTED) == 0 && is_virtual(flags)
 }
 
 /// Whether a look-up passes over methods of these flags.

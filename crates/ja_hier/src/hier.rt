@@ -1,22 +1,23 @@
-ghost use Rattle.std.specs.Prelude.{◌≡◌, ℕ, List, ◌<◌, ◌↔◌, Some, None, length, sum_by, take, IsTrue, IfOk, IfErr, IfSome, IfNone, OnOk};
+ghost use Rattle.std.specs.Prelude.{◌≡◌, ℕ, List, ◌<◌, ◌≤◌, ◌^◌, ◌↔◌, Some, None, length, sum_by, take, IsTrue, IfOk, IfErr, IfSome, IfNone, OnOk};
 ghost use Rattle.ja_hier.specs.declared.skip.Skip.TheVariants.{NoMethod, NotVirtual};
 ghost use Rattle.ja_hier.specs.Faults.{IsFault, IsHierarchy};
-ghost use Rattle.ja_hier.specs.Index.{IsIndexed};
+ghost use Rattle.ja_hier.specs.Index.{AreForks, ArePlaces, AreStarts, IsIndexed, IsIndexOf};
 ghost use Rattle.ja_hier.specs.declared.starts.Member.TheVariants.{Method};
 ghost use Rattle.ja_hier.specs.Members.{count_of, IsNumbered};
 ghost use Rattle.ja_hier.specs.LookUps.{FindsField, Finds};
+ghost use Rattle.ja_supertypes.specs.Faults.{AreClasses};
 ghost use Rattle.ja_supertypes.specs.LibraryTypes.{AreLibraryTypes, IsNearest};
 ghost use Rattle.ja_supertypes.specs.Supertypes as supertypes;
 ghost use Rattle.ja_supertypes.specs.Supertypes.{superclass_of, AreSupertypes, IsAtOrAbove, IsSuperclass};
 
 use crate::crossing::check_packages;
 use crate::forks::forks;
-use crate::index::members_by_name;
+use crate::index::{MembersByName, members_by_name};
 use crate::skip::Skip;
 use crate::starts::{Member, starts};
 use crate::tables::Tables;
 use crate::{FieldAt, HierFault, fields, methods};
-use ja_base::{ClassId, Name, Names, Numbers, Seq};
+use ja_base::{ClassId, Memory, Name, Names, Numbers, Seq};
 use ja_ir::{ClassHead, MethodAt};
 use ja_supertypes::{Classes, classes_of};
 use std::alloc::Global;
@@ -57,9 +58,23 @@ pub fn hierarchy(alloc: Global, heads: &[ClassHead]) -> Result<Hier, HierFault>
     ensures valid { OnOk result (IsHierarchy heads.now) }
     ensures fault { IfErr result (IsFault heads.now) }
 {
-    let tables = tables_of(alloc, heads)?;
-    check_packages(&tables)?;
-    Ok(Hier { tables })
+    match tables_of(alloc, heads) {
+        Ok(tables) => checked(tables),
+        Err(fault) => Err(fault),
+    }
+}
+
+/// The hierarchy with these tables, unless a method redeclares one of another package.
+fn checked(tables: Tables) -> Result<Hier, HierFault>
+    requires { IsIndexed tables }
+    ensures heads { IfOk result (λ hier. hier ≡ tables.classes) }
+    ensures valid { OnOk result (IsHierarchy tables.classes) }
+    ensures fault { IfErr result (IsFault tables.classes) }
+{
+    match check_packages(&tables) {
+        Ok(()) => Ok(Hier { tables }),
+        Err(fault) => Err(fault),
+    }
 }
 
 fn tables_of(alloc: Global, heads: &[ClassHead]) -> Result<Tables, HierFault>
@@ -68,20 +83,80 @@ fn tables_of(alloc: Global, heads: &[ClassHead]) -> Result<Tables, HierFault>
     ensures indexed { IfOk result IsIndexed }
     ensures fault { IfErr result (IsFault heads.now) }
 {
-    let classes = classes_of(alloc, heads)?;
-    let field_starts = starts(alloc, heads, Member::Field)?;
-    let method_starts = starts(alloc, heads, Member::Method)?;
-    let forks = forks(alloc, &classes)?;
-    let fields = members_by_name(alloc, heads, Member::Field)?;
-    let methods = members_by_name(alloc, heads, Member::Method)?;
-    Ok(Tables {
-        classes,
-        field_starts,
-        method_starts,
-        forks,
-        fields,
-        methods,
-    })
+    let fields = members_of(alloc, heads, Member::Field)?;
+    let methods = members_of(alloc, heads, Member::Method)?;
+    match ways_of(alloc, heads) {
+        Ok(ways) => Ok(joined(ways, fields, methods)),
+        Err(fault) => Err(fault),
+    }
+}
+
+/// The classes, and the forks of their ways up.
+#[derive(Drop)]
+struct Ways {
+    classes: Classes,
+    forks: Numbers,
+}
+
+/// The members of a kind of all classes: the number of the first of each class, and all by name.
+#[derive(Drop)]
+struct Members {
+    starts: Numbers,
+    by_name: MembersByName,
+}
+
+/// The tables with these parts.
+fn joined(ways: Ways, fields: Members, methods: Members) -> Tables
+    ensures { result ≡ record { classes = ways.classes; field_starts = fields.starts; method_starts = methods.starts; forks = ways.forks; fields = fields.by_name; methods = methods.by_name } }
+{
+    Tables {
+        classes: ways.classes,
+        field_starts: fields.starts,
+        method_starts: methods.starts,
+        forks: ways.forks,
+        fields: fields.by_name,
+        methods: methods.by_name,
+    }
+}
+
+/// The classes of these heads, and the forks of their ways up.
+fn ways_of(alloc: Global, heads: &[ClassHead]) -> Result<Ways, HierFault>
+    requires { length heads.now ≤ 2 ^ 26 }
+    ensures heads { IfOk result (λ ways. ways.classes ≡ heads.now) }
+    ensures valid { OnOk result (AreClasses heads.now) }
+    ensures forks { IfOk result (λ ways. AreForks heads.now ways.forks) }
+    ensures fault { IfErr result (IsFault heads.now) }
+{
+    match classes_of(alloc, heads) {
+        Ok(classes) => with_forks(alloc, classes),
+        Err(fault) => Err(HierFault::from(fault)),
+    }
+}
+
+/// The classes with the forks of their ways up.
+fn with_forks(alloc: Global, classes: Classes) -> Result<Ways, HierFault>
+    requires few { length classes ≤ 2 ^ 26 }
+    requires valid { AreClasses classes }
+    ensures classes { IfOk result (λ ways. ways.classes ≡ classes) }
+    ensures forks { IfOk result (λ ways. AreForks classes ways.forks) }
+    ensures fault { IfErr result (IsFault classes) }
+{
+    match forks(alloc, &classes) {
+        Ok(forks) => Ok(Ways { classes, forks }),
+        Err(memory) => Err(HierFault::from(memory)),
+    }
+}
+
+/// The members of a kind that the classes of these heads declare.
+fn members_of(alloc: Global, heads: &[ClassHead], member: Member) -> Result<Members, Memory>
+    requires { sum_by (count_of member) heads.now ≤ 2 ^ 26 }
+    ensures starts { IfOk result (λ members. AreStarts heads.now (count_of member) members.starts) }
+    ensures classes { IfOk result (λ members. IsIndexOf member heads.now members.by_name.classes) }
+    ensures places { IfOk result (λ members. ArePlaces member heads.now members.by_name.places) }
+{
+    let starts = starts(alloc, heads, member)?;
+    let by_name = members_by_name(alloc, heads, member)?;
+    Ok(Members { starts, by_name })
 }
 
 /// Whether another class is a class or a proper supertype of it.

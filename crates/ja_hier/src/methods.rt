@@ -8,11 +8,11 @@ ghost use Rattle.ja_supertypes.specs.Supertypes.{IsSuperclass};
 ghost use Rattle.ja_hier.specs.LookUps.{method_in, method_number, answer_at, ClassSearch, FindsDefault, Finds};
 
 use crate::above::{fewer, is_below};
-use crate::flags::{is_abstract, skips};
+use crate::flags::skips;
 use crate::skip::Skip;
 use crate::tables::Tables;
 use ja_base::{MethodId, Name};
-use ja_ir::{HeadMethods, MethodAt};
+use ja_ir::{HeadMethods, MethodAt, is_abstract};
 
 /// Whether there is a method of this descriptor at a place, which the look-up does not pass over.
 fn is_method_at(methods: &HeadMethods, skip: Skip, desc: &Name, place: u64) -> bool

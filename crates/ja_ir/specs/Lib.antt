@@ -10,5 +10,6 @@ pub mod Whole
 pub mod Entries
 pub mod Blocks
 pub mod InnerLeaders
+pub mod InnerPlaces
 pub mod Examples
 pub mod Sample

@@ -1,5 +1,6 @@
 -- Where the things of a program are found, and what their access flags say.
 use Rattle.std.specs.Prelude.{◌≡◌, ℕ, ◌<◌, ◌==◌, ◌&&◌, Bool, false, not, bit_and, bytes_eq, List, [], ◌∷◌, Option, Some, None, Contains, length, slice_get, if◌then◌else◌}
+use Rattle.ja_base.specs.AccessFlags.{acc_static, acc_abstract, acc_interface}
 use Rattle.std.specs.List.{list_any, position_from}
 use Rattle.ja_ir.specs.declared.program.Parts.{Parts}
 use Rattle.ja_ir.specs.declared.class.ClassInfo.{ClassInfo}
@@ -17,7 +18,7 @@ has_flag flags mask = not (bit_and flags mask == 0)
 
 -- ACC_STATIC: the field or method belongs to the class
 abbrev pub is_static : (flags : ℕ) → Bool
-is_static flags = has_flag flags 0x0008
+is_static flags = has_flag flags acc_static
 
 -- the field or method belongs to an object
 abbrev pub is_member : (flags : ℕ) → Bool
@@ -25,11 +26,11 @@ is_member flags = not (is_static flags)
 
 -- ACC_ABSTRACT: the class has no objects of its own, or the method has no code
 abbrev pub is_abstract : (flags : ℕ) → Bool
-is_abstract flags = has_flag flags 0x0400
+is_abstract flags = has_flag flags acc_abstract
 
 -- ACC_INTERFACE: the class is an interface
 abbrev pub is_interface : (flags : ℕ) → Bool
-is_interface flags = has_flag flags 0x0200
+is_interface flags = has_flag flags acc_interface
 
 -- the method has instructions
 abbrev pub HasCode : Method → Type 0

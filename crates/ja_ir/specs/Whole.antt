@@ -1,5 +1,6 @@
 -- What each program keeps.
 use Rattle.std.specs.Prelude.{◌≡◌, ℕ, ◌+◌, ◌<◌, ◌≤◌, ◌^◌, ◌⊎◌, ◌↔◌, true, false, List, [], ◌∷◌, Option, Some, None, All, codes, length, slice_get, sum_by}
+use Rattle.ja_base.specs.Limit.{max_frame_values}
 use Rattle.ja_base.specs.declared.java_type.JavaType.{JavaType}
 use Rattle.ja_base.specs.Descriptor.{AreTypes, IsField, IsMethod, words_of_all}
 use Rattle.ja_ir.specs.declared.program.Parts.{Parts}
@@ -226,7 +227,7 @@ pub record IsWhole (p : Parts) : Type 0 where
   -- the numbers of things are bounded
   pub small : IsSmall p
   -- a frame has at most 512 values
-  pub frames : All (λ method. method.locals + method.stack ≤ 512) p.methods
+  pub frames : All (λ method. method.locals + method.stack ≤ max_frame_values) p.methods
   -- each method with code can begin
   pub starts : All (λ method. HasCode method → Starts method) p.methods
   -- each reached instruction can go on

@@ -3,19 +3,8 @@ ghost use Rattle.std.specs.Prelude.{◌≡◌, IfOk};
 use crate::{
     ClassInfo, ClassInfos, Field, Fields, Handler, Handlers, Selection, Selections, Site, Sites,
 };
-use ja_base::{Desc, JavaType, JavaTypes, Memory, Name, Names, Seq};
+use ja_base::{Desc, JavaType, JavaTypes, Memory, Seq};
 use std::alloc::Global;
-
-/// The same names.
-pub(crate) fn copy_names(alloc: Global, names: &[Name]) -> Result<Names, Memory>
-    ensures { IfOk result (λ copy. copy ≡ names.now) }
-{
-    let mut copies = Seq::new(alloc);
-    for name in names {
-        copies.push(name.copy(alloc)?)?;
-    }
-    Ok(copies)
-}
 
 /// The same classes.
 pub(crate) fn copy_classes(alloc: Global, classes: &[ClassInfo]) -> Result<ClassInfos, Memory>
@@ -34,9 +23,9 @@ fn copy_class(alloc: Global, class: &ClassInfo) -> Result<ClassInfo, Memory>
 {
     let name = class.name.copy(alloc)?;
     let file = class.file.copy(alloc)?;
-    let supers = Seq::from_vec(Vec::from_slice(alloc, class.supers.as_slice())?);
+    let supers = Seq::copy_of(alloc, class.supers.as_slice())?;
     let selections = copy_selections(alloc, class.selections.as_slice())?;
-    let inits = Seq::from_vec(Vec::from_slice(alloc, class.inits.as_slice())?);
+    let inits = Seq::copy_of(alloc, class.inits.as_slice())?;
     Ok(ClassInfo {
         name,
         file,
@@ -113,7 +102,7 @@ pub(crate) fn copy_sites(alloc: Global, sites: &[Site]) -> Result<Sites, Memory>
 fn copy_site(alloc: Global, site: &Site) -> Result<Site, Memory>
     ensures { IfOk result (λ copy. copy ≡ site.now) }
 {
-    let positions = Seq::from_vec(Vec::from_slice(alloc, site.positions.as_slice())?);
+    let positions = Seq::copy_of(alloc, site.positions.as_slice())?;
     let target = site.target.copy(alloc)?;
     Ok(Site {
         method: site.method,

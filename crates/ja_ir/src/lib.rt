@@ -6,6 +6,7 @@ mod block;
 mod class;
 mod copy;
 mod entry;
+mod flags;
 mod head;
 mod initializing;
 mod law;
@@ -14,6 +15,7 @@ mod op;
 mod program;
 mod project;
 mod row;
+mod successors;
 
 pub use block::{Block, Blocks, blocks_of};
 pub use class::{
@@ -21,9 +23,11 @@ pub use class::{
     Selections,
 };
 pub use entry::{Entries, Entry, Site, Sites};
+pub use flags::{is_abstract, is_interface, is_static};
 pub use head::{ClassHead, HeadField, HeadFields, HeadMethod, HeadMethods};
 pub use law::{law_environment_methods, law_sample_is_whole, law_small_program};
 pub use method::{Catch, Handler, Handlers, Instr, Instrs, Method, Methods};
 pub use op::{CallKind, CallOp, Op, Token};
 pub use program::{Parts, Program};
 pub use row::{LibRow, RowEffect, RowFlow, RowResult};
+pub use successors::Successors;

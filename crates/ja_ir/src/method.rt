@@ -1,5 +1,5 @@
-use crate::Op;
-use ja_base::{ClassId, Desc, Name, Numbers, Seq};
+use crate::{Op, Successors};
+use ja_base::{ClassId, Desc, Name, Seq};
 
 /// A method of a program class.
 #[derive(Drop)]
@@ -31,7 +31,7 @@ pub struct Instr {
     /// The indices of the instructions to which its normal end may lead. Those of a branch are its
     /// target, or its default and then its cases with repeats kept, and then the instruction after
     /// it where it can go on there.
-    pub next: Numbers,
+    pub next: Successors,
     /// The number of values on the stack before it, and 0 where it is not reached.
     pub height: u32,
     /// Whether some path from the first instruction leads to it.

@@ -3,11 +3,10 @@ ghost use Rattle.ja_ir.specs.Categories as categories;
 ghost use Rattle.ja_ir.specs.Categories.{category_count, projected};
 
 use crate::copy::{
-    copy_classes, copy_desc, copy_fields, copy_handlers, copy_names, copy_result, copy_sites,
-    copy_types,
+    copy_classes, copy_desc, copy_fields, copy_handlers, copy_result, copy_sites, copy_types,
 };
 use crate::{CallOp, Entries, Entry, Instr, Instrs, LibRow, Method, Methods, Op, Program, RowFlow};
-use ja_base::{Memory, Seq};
+use ja_base::{Memory, Seq, copy_names};
 use std::alloc::Global;
 
 impl Program {
@@ -85,7 +84,7 @@ fn instr_in(alloc: Global, instr: &Instr, category: u32) -> Result<Instr, Memory
     ensures { IfOk result (λ copy. copy ≡ categories.instr_in category instr.now) }
 {
     let op = op_in(alloc, &instr.op, category)?;
-    let next = Seq::from_vec(Vec::from_slice(alloc, instr.next.as_slice())?);
+    let next = instr.next.copy(alloc)?;
     Ok(Instr {
         pc: instr.pc,
         op,
@@ -105,7 +104,7 @@ fn op_in(alloc: Global, op: &Op, category: u32) -> Result<Op, Memory>
             Ok(Op::Call(call))
         }
         Op::Shuffle { pops, pushes } => {
-            let pushes = Seq::from_vec(Vec::from_slice(alloc, pushes.as_slice())?);
+            let pushes = Seq::copy_of(alloc, pushes.as_slice())?;
             Ok(Op::Shuffle {
                 pops: *pops,
                 pushes,
@@ -177,8 +176,8 @@ fn row_in(alloc: Global, row: &LibRow, category: u32) -> Result<LibRow, Memory>
 {
     let marks = row.marks.as_slice();
     let flow = flow_for(has_category(marks, category), row.flow);
-    let sinks = Seq::from_vec(Vec::from_slice(alloc, row.sinks.as_slice())?);
-    let marks = Seq::from_vec(Vec::from_slice(alloc, marks)?);
+    let sinks = Seq::copy_of(alloc, row.sinks.as_slice())?;
+    let marks = Seq::copy_of(alloc, marks)?;
     Ok(LibRow {
         flow,
         effect: row.effect,
@@ -220,8 +219,8 @@ fn entry_in(alloc: Global, entry: &Entry, category: u32) -> Result<Entry, Memory
     } else {
         &[]
     };
-    let marked = Seq::from_vec(Vec::from_slice(alloc, positions)?);
-    let marks = Seq::from_vec(Vec::from_slice(alloc, marks)?);
+    let marked = Seq::copy_of(alloc, positions)?;
+    let marks = Seq::copy_of(alloc, marks)?;
     Ok(Entry {
         class: entry.class,
         method: entry.method,

@@ -13,3 +13,5 @@ mod Firsts
 pub mod OneAnswer
 pub mod Reached
 pub mod Moves
+pub mod Wide
+pub mod Places

@@ -9,7 +9,8 @@ use Rattle.ja_code.specs.declared.instr.RawInstr.{RawInstr}
 use Rattle.ja_code.specs.declared.code.Code.{Code}
 use Rattle.ja_ir.specs.declared.head.HeadMethod.{HeadMethod}
 use Rattle.ja_class.specs.declared.class.ClassMethod.{ClassMethod}
-use Rattle.ja_class.specs.Meaning.{ClassSpelled, is_static}
+use Rattle.ja_ir.specs.Lookup.{is_static}
+use Rattle.ja_class.specs.Meaning.{ClassSpelled}
 use Rattle.ja_kinds.specs.declared.fault.KindFault.{KindFault}
 use Rattle.ja_kinds.specs.declared.frame.Frame.{Frame}
 use Rattle.ja_kinds.specs.declared.state.KindState.{KindState}

@@ -1,5 +1,6 @@
 -- What an instruction does to a frame, and where it may lead (JVM specification 4.10.1.9, 6.5).
 use Rattle.std.specs.Prelude.{◌≡◌, ℕ, ◌+◌, ◌⊎◌, Bool, true, false, IsTrue, List, [], ◌∷◌, ◌++◌, length, map, replicate, slice_index, Option, Some, None, option_map, nat_le, nat_lt, not, ◌==◌, ◌&&◌, ◌||◌, if◌then◌else◌}
+use Rattle.ja_base.specs.Tag as pool_tag
 use Rattle.ja_base.specs.Kind.{words_of}
 use Rattle.ja_base.specs.Descriptor.{IsField, IsMethod}
 use Rattle.ja_base.specs.declared.java_type.Kind.{Kind}
@@ -47,7 +48,7 @@ place_of (Fixed place) i = place
 
 -- the constant that an instruction names is of this kind: a text or a class is a reference, an int or a float is not
 abbrev pub constant_kind : ℕ → Option Kind
-constant_kind tag = if tag == 7 || tag == 8 then Some R else if tag == 3 || tag == 4 then Some P1 else None
+constant_kind tag = if tag == pool_tag.class || tag == pool_tag.string then Some R else if tag == pool_tag.integer || tag == pool_tag.float then Some P1 else None
 
 -- the member that an instruction names is a field of this kind
 pub record NamesField (pool : Table) (i : RawInstr) (kind : Kind) : Type 0 where

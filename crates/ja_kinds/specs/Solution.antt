@@ -1,5 +1,6 @@
 -- What is known before each instruction of a method: the least solution, and the first fault.
 use Rattle.std.specs.Prelude.{◌≡◌, ℕ, ◌+◌, ◌<◌, ◌≤◌, Bool, true, false, List, [], ◌∷◌, length, Option, Some, None, is_none, nat_lt, ◌==◌, ◌&&◌, ◌||◌, if◌then◌else◌}
+use Rattle.ja_base.specs.Limit.{max_frame_values}
 use Rattle.ja_base.specs.declared.java_type.Kind.{Kind}
 use Rattle.ja_base.specs.declared.java_type.Kind.TheVariants.{R}
 use Rattle.ja_pool.specs.Table.{Table}
@@ -106,9 +107,9 @@ pub data IsFirst (pool : Table) (frame : Frame) (at : ℕ → State) : List RawI
   later : {i : RawInstr} {is : List RawInstr} {fault : KindFault} → IsRight pool frame at i → IsFirst pool frame at is fault
       → IsFirst pool frame at (i ∷ is) fault
 
--- the locals and the stack have more than 512 words together
+-- the locals and the stack have more words together than a frame may have
 abbrev pub is_too_large : Frame → Bool
-is_too_large frame = nat_lt 512 (frame.max_locals + frame.max_stack)
+is_too_large frame = nat_lt max_frame_values (frame.max_locals + frame.max_stack)
 
 -- the first fault of a method: the size of its frame, and then the fault of the first instruction that has one
 pub data IsFault (pool : Table) (code : Code) (frame : Frame) : KindFault → Type 0 where

@@ -1,7 +1,6 @@
 ghost use Rattle.std.specs.Prelude.{◌≡◌, ◌<◌, ◌^◌, sum_by, IfOk};
 ghost use Rattle.ja_bytes.specs.DescriptorText.{IsMethodText};
 ghost use Rattle.ja_code.specs.declared.instr.RawInstr.{RawInstr};
-ghost use Rattle.ja_class.specs.Meaning.{is_static};
 ghost use Rattle.ja_kinds.specs.Answer.{code_size, parameter_kinds, IsFrame};
 
 use crate::frame::Frame;
@@ -12,7 +11,7 @@ use ja_base::{JavaTypes, Kind, Memory};
 use ja_bytes::{DescFault, method_desc};
 use ja_class::ClassMethod;
 use ja_code::{Code, RawInstr};
-use ja_ir::HeadMethod;
+use ja_ir::{HeadMethod, is_static};
 use std::alloc::Global;
 
 /// The length of instructions together in bytes.
@@ -25,13 +24,6 @@ fn size_of(instrs: &[RawInstr]) -> u32
         size += instr.length;
     }
     size
-}
-
-/// Whether a method with these flags has no receiver.
-fn is_static(flags: u32) -> bool
-    ensures { result ≡ is_static flags }
-{
-    flags & 0x0008 != 0
 }
 
 /// The kinds of the parameters of a method with these flags.

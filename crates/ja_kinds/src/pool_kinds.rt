@@ -5,6 +5,7 @@ ghost use Rattle.ja_code.specs.Grammar.{operand_at};
 ghost use Rattle.ja_kinds.specs.Reading.{FindsField, FindsMethod};
 
 use crate::state::KindList;
+use ja_base::tag::{CLASS, FIELD, FLOAT, INTEGER, INTERFACE_METHOD, METHOD, STRING};
 use ja_base::{JavaType, JavaTypes, Kind, Memory};
 use ja_bytes::{DescFault, field_desc, method_desc};
 use ja_code::RawInstr;
@@ -34,7 +35,7 @@ pub fn tag_named(pool: &Pool, instr: &RawInstr) -> u8
 fn is_member_tag(tag: u8) -> bool
     ensures { result ≡ is_member_tag tag }
 {
-    tag == 9 || tag == 10 || tag == 11
+    tag == FIELD || tag == METHOD || tag == INTERFACE_METHOD
 }
 
 /// The kind of a constant with this tag, where `ldc` takes it.
@@ -42,10 +43,10 @@ pub(crate) fn constant_kind(tag: u8) -> Option<Kind>
     ensures { result ≡ constant_kind tag }
 {
     match tag {
-        7 => Some(Kind::R),
-        8 => Some(Kind::R),
-        3 => Some(Kind::P1),
-        4 => Some(Kind::P1),
+        CLASS => Some(Kind::R),
+        STRING => Some(Kind::R),
+        INTEGER => Some(Kind::P1),
+        FLOAT => Some(Kind::P1),
         _ => None,
     }
 }

@@ -284,7 +284,7 @@ pub record HasWrongCategories (document : Members) : Type 0 where
   pub tables : HasTables document rows entries
   pub wrong : (names : List (List ℕ)) → HasCategories document names → ⊥
 
--- the document has tables of rows, the first wrong one of which stands at this place
+-- the document has tables and categories that are right, and the first wrong row of its tables of rows stands at this place
 pub record HasWrongRow (document : Members) (place : ℕ) : Type 0 where
   pub rows : List Members
   pub entries : List Members
@@ -293,7 +293,7 @@ pub record HasWrongRow (document : Members) (place : ℕ) : Type 0 where
   pub categories : HasCategories document names
   pub wrong : IsFirstWrong (SpellsRow names) rows place
 
--- the document has tables of rows, none of them wrong, and of entries, the first wrong one of which stands at this place
+-- the document has tables, categories and rows that are right, and the first wrong one of its tables of entries stands at this place
 pub record HasWrongEntry (document : Members) (place : ℕ) : Type 0 where
   pub rows : List Members
   pub entries : List Members

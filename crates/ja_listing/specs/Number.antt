@@ -1,6 +1,7 @@
 -- Numbers, in decimal digits.
 use Rattle.std.specs.Prelude.{ℕ, ◌+◌, ◌-◌, ◌*◌, Bool, true, false, List, [], ◌∷◌, length, drop, slice_index, Option, Some, None, min, nat_le, nat_lt, ◌==◌, ◌&&◌, bit_and, if◌then◌else◌}
 use Rattle.std.specs.List.{list_all}
+use Rattle.ja_base.specs.AccessFlags.{acc_native, acc_abstract}
 use Rattle.ja_listing.specs.declared.number.Number.{Number}
 
 -- `0` to `9`
@@ -34,4 +35,4 @@ number_of word = if has_sign word then size_of true (drop 1 word) else size_of f
 
 -- whether a method with these flags has code: it is neither abstract nor native (JVM specification 4.6 and 4.7.3)
 abbrev pub has_code : Number → Bool
-has_code flags = bit_and flags.size 1280 == 0
+has_code flags = bit_and flags.size (acc_abstract + acc_native) == 0

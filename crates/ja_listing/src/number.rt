@@ -1,6 +1,8 @@
 ghost use Rattle.std.specs.Prelude.{◌≡◌, min};
 ghost use Rattle.ja_listing.specs.Number.{is_digit, are_digits, decimal, size_of, has_sign, number_of, has_code};
 
+use ja_base::access_flags::{ABSTRACT, NATIVE};
+
 /// A number of a listing.
 #[derive(Clone, Copy)]
 pub struct Number {
@@ -67,6 +69,6 @@ impl Number {
     pub fn has_code(self) -> bool
         ensures { result ≡ has_code self }
     {
-        self.size & 0x0500 == 0
+        self.size & u32::from(ABSTRACT | NATIVE) == 0
     }
 }

@@ -20,7 +20,7 @@ use Rattle.ja_ir.specs.declared.method.Instr.{Instr}
 use Rattle.ja_ir.specs.declared.method.Method.{Method}
 use Rattle.ja_ir.specs.declared.program.Parts.{Parts}
 use Rattle.ja_ir.specs.Lookup.{HasCode, code_of, is_abstract}
-use Rattle.ja_ir.specs.Categories.{category_count, count_of_names}
+use Rattle.ja_ir.specs.Categories.{count_of_names}
 use Rattle.ja_ir.specs.declared.row.LibRow.{LibRow}
 use Rattle.ja_ir.specs.Operations.{arguments}
 use Rattle.ja_ir.specs.Whole.{IsAnswer, IsDescribed, IsFound, IsWhole, IsWholeMethod, IsWholeRow, IsWholeSite, LiesIn, NamesAll, NamesCaught, NamesClass, NamesOperands, Runs, SpellsField, Starts, instruction_count as count_of_program}

@@ -3,6 +3,7 @@ use Rattle.std.specs.Prelude.{◌≡◌, ℕ, suc, ◌<◌, ◌≤◌, ◌⊎◌
 use Rattle.std.specs.List.{IsDistinct, ends_with, list_any}
 use Rattle.std.specs.Ordering.{nat_cmp}
 use Rattle.std.specs.Cmp.Lexicographic.{slice_cmp}
+use Rattle.ja_base.specs.Limit.{max_class_files, max_file_bytes, max_total_bytes}
 use Rattle.ja_base.specs.declared.file.File.{File}
 use Rattle.ja_base.specs.declared.refusal.Refusal.{Refusal}
 use Rattle.ja_base.specs.declared.refusal.Refusal.TheVariants.{Archive, TooManyFiles, FileTooLong, TotalTooLong}
@@ -57,11 +58,11 @@ pub record IsArchiveAt (files : List File) (k : ℕ) : Type 0 where
 
 -- the file has more than 4 MiB
 abbrev pub IsTooLong : File → Type 0
-IsTooLong file = 4194304 < length file.bytes
+IsTooLong file = max_file_bytes < length file.bytes
 
 -- the files up to this place and the one there have more than 64 MiB together
 abbrev pub IsTooMuch : List File → (k : ℕ) → Type 0
-IsTooMuch files k = 67108864 < sum_by (λ (file : File). length file.bytes) (take (suc k) files)
+IsTooMuch files k = max_total_bytes < sum_by (λ (file : File). length file.bytes) (take (suc k) files)
 
 -- with the file in place k, one file is too long, or all so far are too long together
 pub record IsOver (files : List File) (k : ℕ) : Type 0 where
@@ -78,11 +79,11 @@ pub data IsLengthRefusal (files : List File) : Refusal → Type 0 where
 -- The files are in order
 pub data IsRefusedUnread (files : List File) : Refusal → Type 0 where
   archive : (k : ℕ) (file : File) → IsFirst (IsArchiveAt files) k → slice_get files k ≡ Some file → IsRefusedUnread files (Archive file.name)
-  too_many_files : IsNowhere (IsArchiveAt files) → 4096 < length (class_files files) → IsRefusedUnread files (TooManyFiles (length (class_files files)))
-  too_long : {refusal : Refusal} → IsNowhere (IsArchiveAt files) → length (class_files files) ≤ 4096 → IsLengthRefusal (read_files files) refusal → IsRefusedUnread files refusal
+  too_many_files : IsNowhere (IsArchiveAt files) → max_class_files < length (class_files files) → IsRefusedUnread files (TooManyFiles (length (class_files files)))
+  too_long : {refusal : Refusal} → IsNowhere (IsArchiveAt files) → length (class_files files) ≤ max_class_files → IsLengthRefusal (read_files files) refusal → IsRefusedUnread files refusal
 
 -- the folder is not
 pub record IsReadable (files : List File) : Type 0 where
   pub no_archive : IsNowhere (IsArchiveAt files)
-  pub few : length (class_files files) ≤ 4096
+  pub few : length (class_files files) ≤ max_class_files
   pub short : IsNowhere (IsOver (read_files files))

@@ -10,7 +10,7 @@ use crate::LowerFault;
 use crate::answer::{Answer, answers_of};
 use crate::place::places_of;
 use crate::refusal::method_fault;
-use ja_base::{Memory, MethodId, Names, Numbers, Seq};
+use ja_base::{Memory, MethodId, Names, Seq};
 use ja_class::Class;
 use ja_hier::Hier;
 use ja_ir::{Methods, Site, Sites};
@@ -118,7 +118,7 @@ fn add_sites(
 fn site_of(alloc: Global, m: MethodId, site: &MethodSite) -> Result<Site, Memory>
     ensures { IfOk result (λ copy. copy ≡ site_of m.0 site.now) }
 {
-    let positions = copy_numbers(alloc, site.positions.as_slice())?;
+    let positions = Seq::copy_of(alloc, site.positions.as_slice())?;
     let target = site.target.copy(alloc)?;
     Ok(Site {
         method: m,
@@ -127,11 +127,4 @@ fn site_of(alloc: Global, m: MethodId, site: &MethodSite) -> Result<Site, Memory
         target,
         category: site.category,
     })
-}
-
-/// The same numbers.
-fn copy_numbers(alloc: Global, numbers: &[u64]) -> Result<Numbers, Memory>
-    ensures { IfOk result (λ copy. copy ≡ numbers.now) }
-{
-    Ok(Seq::from_vec(Vec::from_slice(alloc, numbers)?))
 }

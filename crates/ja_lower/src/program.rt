@@ -1,9 +1,14 @@
-ghost use Rattle.std.specs.Prelude.{◌≡◌, ◌⊎◌, All, IfOk, IfErr, MatchResult, OnOk, length};
+ghost use Rattle.std.specs.Prelude.{◌≡◌, ◌⊎◌, ◌≤◌, ◌^◌, All, IfOk, IfErr, MatchResult, OnOk, length, sum_by};
 ghost use Rattle.ja_base.specs.declared.refusal.Refusal.{Refusal};
 ghost use Rattle.ja_ir.specs.declared.program.Parts.{Parts};
 ghost use Rattle.ja_class.specs.ClassFile.{IsSpelled};
+ghost use Rattle.ja_heads.specs.Classes.{AreClassInfos};
+ghost use Rattle.ja_heads.specs.Entries.{AreEntries};
+ghost use Rattle.ja_heads.specs.Fields.{AreFields};
+ghost use Rattle.ja_hier.specs.declared.starts.Member.TheVariants.{Method as OfMethods};
 ghost use Rattle.ja_hier.specs.Faults.{IsHierarchy};
-ghost use Rattle.ja_hier.specs.Members.{IsNumbered};
+ghost use Rattle.ja_hier.specs.Members.{IsNumbered, count_of};
+ghost use Rattle.ja_lib.specs.Content.{IsCategorized};
 ghost use Rattle.ja_lower.specs.Program.{AreFew, IsLowerFault, IsProgramOf, IsRefusedWhole, heads_of};
 ghost use Rattle.ja_lower.specs.declared.fault.LowerFault.TheVariants as faults;
 
@@ -11,11 +16,11 @@ use crate::LowerFault;
 use crate::law::law_one_program;
 use crate::methods::code_of;
 use crate::refusal::hier_fault;
-use ja_base::{Memory, Name, Names, Seq};
+use ja_base::{Memory, Names, Seq, copy_names};
 use ja_class::Class;
 use ja_heads::{class_infos, entries, fields};
 use ja_hier::{Hier, hierarchy};
-use ja_ir::{ClassHead, Program};
+use ja_ir::{ClassHead, ClassInfos, Entries, Fields, Program};
 use ja_lib::Table;
 use ja_methods::law_whole_method;
 use ja_supertypes::copy_head;
@@ -105,11 +110,47 @@ fn program_or_refusal<R: Threads + Sync>(
     law_whole_method();
     let hier = hierarchy_of(alloc, names, classes)?;
     let code = code_of(rt, alloc, names, &hier, classes, t, least)?;
-    let infos = class_infos(alloc, &hier, names)?;
-    let fields = fields(alloc, &hier)?;
-    let entries = entries(alloc, &hier, t)?;
+    let declared = declared_of(alloc, names, &hier, t)?;
+    Ok(Program::new(
+        declared.infos,
+        code.methods,
+        declared.fields,
+        declared.entries,
+        code.sites,
+        declared.categories,
+    ))
+}
+
+/// What a program says apart from code.
+#[derive(Drop)]
+struct Declared {
+    infos: ClassInfos,
+    fields: Fields,
+    entries: Entries,
+    categories: Names,
+}
+
+/// What the program of a hierarchy and a table says apart from code.
+fn declared_of(alloc: Global, names: &Names, hier: &Hier, t: &Table) -> Result<Declared, Memory>
+    requires files { length names.now ≡ length hier.now }
+    requires classes { length hier.now ≤ 2 ^ 26 }
+    requires methods { sum_by (count_of OfMethods) hier.now ≤ 2 ^ 26 }
+    ensures infos { IfOk result (λ declared. AreClassInfos hier.now names.now declared.infos) }
+    ensures fields { IfOk result (λ declared. AreFields hier.now declared.fields) }
+    ensures entries { IfOk result (λ declared. AreEntries hier.now t.now declared.entries) }
+    ensures categories { IfOk result (λ declared. declared.categories ≡ t.now.categories) }
+    ensures about { OnOk result (IsCategorized t.now) }
+{
+    let infos = class_infos(alloc, hier, names)?;
+    let fields = fields(alloc, hier)?;
+    let entries = entries(alloc, hier, t)?;
     let categories = copy_names(alloc, t.categories().as_slice())?;
-    Ok(Program::new(infos, code.methods, fields, entries, code.sites, categories))
+    Ok(Declared {
+        infos,
+        fields,
+        entries,
+        categories,
+    })
 }
 
 /// The hierarchy of the classes.
@@ -139,15 +180,4 @@ fn heads_of(alloc: Global, classes: &[Class]) -> Result<Seq<ClassHead>, Memory>
         heads.push(head)?;
     }
     Ok(heads)
-}
-
-/// The same names.
-fn copy_names(alloc: Global, names: &[Name]) -> Result<Names, Memory>
-    ensures { IfOk result (λ copy. copy ≡ names.now) }
-{
-    let mut copy = Seq::new(alloc);
-    for name in names {
-        copy.push(name.copy(alloc)?)?;
-    }
-    Ok(copy)
 }

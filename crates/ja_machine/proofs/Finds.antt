@@ -8,7 +8,7 @@ use Rattle.ja_machine.specs.declared.heap.Value.TheVariants.{Prim, Null, Ref}
 use Rattle.ja_machine.specs.declared.heap.FieldValue.{FieldValue}
 use Rattle.ja_machine.specs.declared.heap.Object.{Object}
 use Rattle.ja_machine.specs.Marks.{has, none, union}
-use Rattle.ja_machine.specs.Reach.{links, Linked, Path, here, along, mark_of, is_marked, finds, out_of, next_of, is_reached, field_marks, marks_of, marks_reached, is_tainted, IsTainted, marked, reaches}
+use Rattle.ja_machine.specs.Reach.{links, Linked, Path, here, along, mark_of, is_marked, finds, out_of, next_of, is_reached, field_marks, object_marks, marks_reached, is_tainted, IsTainted, marked, reaches}
 use Rattle.ja_machine.proofs.Marks.{or-left, or-right, or-split, has-none, has-union, union-left, union-right, union-split}
 
 -- an element passes the test
@@ -182,7 +182,7 @@ fields-say c [] = has-none c
 fields-say c (f ∷ fields) = has-union (mark_of f.value) (field_marks fields) c ∙ ap (λ (b : Bool). has (mark_of f.value) c || b) (fields-say c fields)
 
 -- the marks of an object, category by category
-pub marks-say : (c : ℕ) (o : Object) → has (marks_of o) c ≡ is_marked c o
+pub marks-say : (c : ℕ) (o : Object) → has (object_marks o) c ≡ is_marked c o
 marks-say c o = has-union o.mark (field_marks o.fields) c ∙ ap (λ (b : Bool). has o.mark c || b) (fields-say c o.fields)
 
 -- one of the objects, whose places are k and the following, is reached from a and has a mark of the category
@@ -191,7 +191,7 @@ record MarkedFrom (c : ℕ) (heap : List Object) (a k : ℕ) (objects : List Obj
   object : Object
   found : slice_get objects place ≡ Some object
   is_found : is_reached links heap a (k + place) ≡ true
-  marked_there : has (marks_of object) c ≡ true
+  marked_there : has (object_marks object) c ≡ true
 
 module _ (c : ℕ) (heap : List Object) (a : ℕ) where
   later-marked : (k : ℕ) (o : Object) (objects : List Object) → MarkedFrom c heap a (k + 1) objects → MarkedFrom c heap a k (o ∷ objects)
@@ -207,10 +207,10 @@ module _ (c : ℕ) (heap : List Object) (a : ℕ) where
   marked-from k [] h = let no-one : has none c ≡ false = has-none c in cc
   marked-from k (o ∷ objects) h = by (is_reached links heap a k) refl h (λ r. later-marked k o objects (marked-from (k + 1) objects r))
     where
-      by : (b : Bool) → is_reached links heap a k ≡ b → has (if b then union (marks_of o) (marks_reached heap a (k + 1) objects) else marks_reached heap a (k + 1) objects) c ≡ true
+      by : (b : Bool) → is_reached links heap a k ≡ b → has (if b then union (object_marks o) (marks_reached heap a (k + 1) objects) else marks_reached heap a (k + 1) objects) c ≡ true
           → (has (marks_reached heap a (k + 1) objects) c ≡ true → MarkedFrom c heap a k (o ∷ objects)) → MarkedFrom c heap a k (o ∷ objects)
       by false e h further = further h
-      by true e h further = elim (union-split (marks_of o) (marks_reached heap a (k + 1) objects) c h) [
+      by true e h further = elim (union-split (object_marks o) (marks_reached heap a (k + 1) objects) c h) [
         | inl m ↦ record {
           place = 0;
           object = o;
@@ -224,17 +224,17 @@ module _ (c : ℕ) (heap : List Object) (a : ℕ) where
   from-later : (k : ℕ) (o : Object) (objects : List Object) → has (marks_reached heap a (k + 1) objects) c ≡ true → has (marks_reached heap a k (o ∷ objects)) c ≡ true
   from-later k o objects h = by (is_reached links heap a k)
     where
-      by : (b : Bool) → has (if b then union (marks_of o) (marks_reached heap a (k + 1) objects) else marks_reached heap a (k + 1) objects) c ≡ true
+      by : (b : Bool) → has (if b then union (object_marks o) (marks_reached heap a (k + 1) objects) else marks_reached heap a (k + 1) objects) c ≡ true
       by false = h
-      by true = union-right (marks_of o) (marks_reached heap a (k + 1) objects) c h
+      by true = union-right (object_marks o) (marks_reached heap a (k + 1) objects) c h
 
-  from-marked : (k : ℕ) (objects : List Object) (place : ℕ) (object : Object) → slice_get objects place ≡ Some object → is_reached links heap a (k + place) ≡ true → has (marks_of object) c ≡ true → has (marks_reached heap a k objects) c ≡ true
+  from-marked : (k : ℕ) (objects : List Object) (place : ℕ) (object : Object) → slice_get objects place ≡ Some object → is_reached links heap a (k + place) ≡ true → has (object_marks object) c ≡ true → has (marks_reached heap a k objects) c ≡ true
   from-marked k [] place x e r m = cc
   from-marked k (o ∷ objects) zero x e r m =
       let same : o ≡ x = cc in
       let here : is_reached links heap a k ≡ true = subst (λ (n : ℕ). is_reached links heap a n ≡ true) (let q : k + 0 ≡ k = omega arith in q) r in
-      subst (λ (b : Bool). has (if b then union (marks_of o) (marks_reached heap a (k + 1) objects) else marks_reached heap a (k + 1) objects) c ≡ true) (sym here)
-      (union-left (marks_of o) (marks_reached heap a (k + 1) objects) c (subst (λ (y : Object). has (marks_of y) c ≡ true) (sym same) m))
+      subst (λ (b : Bool). has (if b then union (object_marks o) (marks_reached heap a (k + 1) objects) else marks_reached heap a (k + 1) objects) c ≡ true) (sym here)
+      (union-left (object_marks o) (marks_reached heap a (k + 1) objects) c (subst (λ (y : Object). has (object_marks y) c ≡ true) (sym same) m))
   from-marked k (o ∷ objects) (suc place) x e r m =
       from-later k o objects (from-marked (k + 1) objects place x e (subst (λ (n : ℕ). is_reached links heap a n ≡ true) (let q : k + suc place ≡ k + 1 + place = omega arith in q) r) m)
 

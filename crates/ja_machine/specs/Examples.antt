@@ -440,7 +440,7 @@ pub record ProgramsRun : Type 0 where
   pub marked_is_not_given : events_of (program_run sharing (Make 0 0 1 [] [] ∷ CallEntry 1 (GiveObject 0 ∷ []) 20 [] ∷ [])) ≡ []
   -- what the environment may not do is refused: a class initialiser where the class has none, a receiver for a static entry, an object that it
   -- has not, a noted object at a position without a mark
-  pub no_initialiser : attempt sharing nothing_yet (Initialize 0 0 20 []) ≡ Refused
+  pub no_initializer : attempt sharing nothing_yet (Initialize 0 0 20 []) ≡ Refused
   pub no_receiver : attempt sharing nothing_yet (Create 0 20 []) ≡ Refused
   pub no_such_object : attempt sharing nothing_yet (CallEntry 1 (GiveObject 0 ∷ []) 20 []) ≡ Refused
   pub noted_object : attempt sharing (one_object 1) (CallEntry 1 (GiveObject 0 ∷ []) 20 []) ≡ Refused
@@ -448,7 +448,7 @@ pub record ProgramsRun : Type 0 where
   pub noted_in_category : has_returned (attempt receiving (one_object 1) (CallEntry 0 (GiveObject 0 ∷ []) 20 [])) ≡ true
   pub noted_in_another : attempt receiving (one_object 2) (CallEntry 0 (GiveObject 0 ∷ []) 20 []) ≡ Refused
   pub noted_in_both : attempt receiving (one_object 3) (CallEntry 0 (GiveObject 0 ∷ []) 20 []) ≡ Refused
-  -- what is made round a noted object is noted in its categories too
+  -- what is made with a noted object in its bag is noted in its categories too
   pub made_round : noted_after (attempt receiving (one_object 1) (Make 0 0 2 ((0 ∷ []) ∷ []) [])) ≡ 1 ∷ 3 ∷ []
   pub object_made : attempt sharing nothing_yet (Make 0 0 1 [] []) ≡ MadeNew (Ref 0) (one_object 1)
   pub null_given : has_returned (attempt sharing nothing_yet (CallEntry 1 (GiveNull ∷ []) 20 [])) ≡ true

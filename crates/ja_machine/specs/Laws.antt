@@ -1,4 +1,4 @@
--- What holds of all runs, whatever the program.
+-- What the laws over all runs say: what objects and stores become in a run, and what a run comes to with more steps.
 use Rattle.std.specs.Prelude.{◌≡◌, ℕ, ◌+◌, true, List, ◌++◌, map, Option, Some, Contains, slice_get}
 use Rattle.ja_ir.specs.declared.program.Parts.{Parts}
 use Rattle.ja_machine.specs.declared.heap.Value.{Value}

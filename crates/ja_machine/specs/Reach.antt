@@ -87,14 +87,14 @@ field_marks [] = none
 field_marks (field ∷ fields) = union (mark_of field.value) (field_marks fields)
 
 -- the marks of an object: its own and those in its fields
-abbrev pub marks_of : Object → ℕ
-marks_of object = union object.mark (field_marks object.fields)
+abbrev pub object_marks : Object → ℕ
+object_marks object = union object.mark (field_marks object.fields)
 
 -- the marks of those of the objects, whose places are k and the following, that are reached from a
 abbrev pub marks_reached : (heap : List Object) (a : ℕ) → (k : ℕ) → List Object → ℕ
 marks_reached heap a k [] = none
 marks_reached heap a k (object ∷ objects) =
-    if is_reached links heap a k then union (marks_of object) (marks_reached heap a (k + 1) objects) else marks_reached heap a (k + 1) objects
+    if is_reached links heap a k then union (object_marks object) (marks_reached heap a (k + 1) objects) else marks_reached heap a (k + 1) objects
 
 -- the categories in which the value is tainted: the marks of a primitive value, or of all objects that a reference reaches
 abbrev pub taints : List Object → Value → ℕ

@@ -4,8 +4,6 @@ pub mod SiteSteps
 pub mod Profile
 pub mod Heights
 pub mod Coded
-pub mod Wide
-pub mod Targets
 pub mod Reaches
 pub mod Whole
 pub mod OneMethod

@@ -42,8 +42,8 @@ use Rattle.ja_methods.proofs.Chain.{Chain, chain-next, chain-last, chain-ordered
 use Rattle.ja_methods.proofs.Profile.{IsDecoded}
 use Rattle.ja_methods.proofs.Coded.{code-chain}
 use Rattle.ja_methods.proofs.Heights.{known-height}
-use Rattle.ja_methods.proofs.Wide.{known-wide}
-use Rattle.ja_methods.proofs.Targets.{names-place}
+use Rattle.ja_kinds.proofs.Wide.{known_is, known_wide}
+use Rattle.ja_kinds.proofs.Places.{names_place}
 
 -- an item of a list and its place
 pub record At {X : Type 0} (xs : List X) (x : X) : Type 0 where
@@ -84,11 +84,6 @@ all-following P true k size next j d lt = pick (ltb (k + 1) size) refl j d lt
     pick true e zero d lt = next refl (ltb-true (k + 1) size e)
     pick true e (suc j) d lt = absurd (omega arith)
     pick false e j d lt = absurd (omega arith)
-
-known-is : (s : State) (f : KindState) → known_of s ≡ Some f → s ≡ Known f
-known-is Unreached f e = absurd (cc)
-known-is (Known g) f e = ap Known (let same : g ≡ f = cc in same)
-known-is Clash f e = absurd (cc)
 
 record Holds (o : Option KindState) : Type 0 where
   state : KindState
@@ -184,7 +179,7 @@ module _ (heads : List ClassHead) (rows : Content) (class : ClassSpelled) (spell
       let held : Holds (known_of (is.are.at raw.item.pc)) = holds (known_of (is.are.at raw.item.pc)) (sym is-of.reached_is ∙ on) in
       let listed : IsOneOf raw.item raws = one-at raws k raw.item raw.at in
       let deed = does_something class spelled m is.are.code is.are.frame is.are.has_frame is.are.at is.are.are raw.item listed in
-      let known : is.are.at raw.item.pc ≡ Known held.state = known-is (is.are.at raw.item.pc) held.state held.is in
+      let known : is.are.at raw.item.pc ≡ Known held.state = known_is (is.are.at raw.item.pc) held.state held.is in
       let taken : IsAccepted is.are.frame raw.item deed.behaviour deed.effect held.state =
       reached.accepts raw.item deed.behaviour deed.effect held.state (record { there = listed; does = deed.does; known = known }) in
       let operation : IsOperation heads rows c class.pool raw.item (Some held.state) (Return kind) =
@@ -209,7 +204,7 @@ module _ (heads : List ClassHead) (rows : Content) (class : ClassSpelled) (spell
     before = held.state
 
     known : is.are.at raw.pc ≡ Known before
-    known = known-is (is.are.at raw.pc) held.state held.is
+    known = known_is (is.are.at raw.pc) held.state held.is
 
     listed-raw : IsOneOf raw raws
     listed-raw = one-at raws k raw raw-at
@@ -305,7 +300,7 @@ module _ (heads : List ClassHead) (rows : Content) (class : ClassSpelled) (spell
               let more : k + 1 < length raws = in-code goes in
               longer (map (index_of raws) (targets_of deed.0 raw)) (following (goes_on deed.0) k (length raws)) (subst (λ (b : Bool). 0 < length (following b k (length raws))) (sym goes) (there-is more))
           | inr to ↦
-              let some : 0 < length raw.operands = names-place (tags_of class.pool) (dims_of class.pool) 0 is.decoded.bytes raws is.decoded.spells.instrs raw listed-raw deed.0 deed.2.opcode to in
+              let some : 0 < length raw.operands = names_place (tags_of class.pool) (dims_of class.pool) 0 is.decoded.bytes raws is.decoded.spells.instrs raw listed-raw deed.0 deed.2.opcode to in
               let targets : targets_of deed.0 raw ≡ raw.operands = ap (λ (b : Bool). cond b raw.operands []) to in
               shorter (map (index_of raws) (targets_of deed.0 raw)) (following (goes_on deed.0) k (length raws))
               (subst (λ (list : List ℕ). 0 < length (map (index_of raws) list)) (sym targets) (some-map raw.operands some))
@@ -350,7 +345,7 @@ module _ (heads : List ClassHead) (rows : Content) (class : ClassSpelled) (spell
       height = omega (arith, height-is, known-height class spelled m is.kinds is.are raw listed-raw before known, is.stack_is);
       operands = subst (λ (n : ℕ). FindsOperands instr.op n) (sym height-is) agrees.operands;
       locals = subst (λ (n : ℕ). UsesLocals instr.op n)
-          (known-wide class.pool is.are.code is.are.frame is.are.at is.are.are.least raw.pc before known ∙ sym is.locals_are) agrees.locals;
+          (known_wide class.pool is.are.code is.are.frame is.are.at is.are.are.least raw.pc before known ∙ sym is.locals_are) agrees.locals;
       next = next-reached;
       handlers = handlers-reached;
       goes_on = goes-somewhere;

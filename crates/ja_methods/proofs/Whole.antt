@@ -24,11 +24,11 @@ use Rattle.ja_ir.specs.declared.method.Instr.{Instr}
 use Rattle.ja_ir.specs.declared.method.Handler.{Handler}
 use Rattle.ja_ir.specs.declared.op.Op.{Op}
 use Rattle.ja_ir.specs.declared.op.Op.TheVariants as ops
-use Rattle.ja_ir.specs.Lookup.{is_abstract, is_member}
+use Rattle.ja_ir.specs.Lookup.{is_abstract, is_member, is_static}
 use Rattle.ja_ir.specs.Operations.{count_of}
 use Rattle.ja_ir.specs.Whole.{ReturnsAs, Starts, IsReachedAt}
 use Rattle.ja_class.specs.declared.class.ClassMethod.{ClassMethod}
-use Rattle.ja_class.specs.Meaning.{ClassSpelled, is_static}
+use Rattle.ja_class.specs.Meaning.{ClassSpelled}
 use Rattle.ja_class.specs.ClassFile.{IsSpelled}
 use Rattle.ja_lib.specs.Content.{Content, IsCategorized}
 use Rattle.ja_supertypes.specs.Supertypes.{class_named, names_of}

@@ -1,5 +1,6 @@
 -- The exception table of a method, by indices of instructions (JVM specification 4.7.3).
 use Rattle.std.specs.Prelude.{◌≡◌, ℕ, ◌==◌, ◌⊎◌, List, Option, Some, None, map, if◌then◌else◌}
+use Rattle.ja_base.specs.Tag as pool_tag
 use Rattle.ja_pool.specs.Table.{Table, tag_at, class_name_at}
 use Rattle.ja_code.specs.declared.instr.RawInstr.{RawInstr}
 use Rattle.ja_code.specs.declared.handler.RawHandler.{RawHandler}
@@ -12,7 +13,7 @@ use Rattle.ja_methods.specs.Places.{index_of}
 
 -- an entry names a class to be caught, or 0 for all
 abbrev pub NamesCaught : Table → (catch_type : ℕ) → Type 0
-NamesCaught pool catch_type = (catch_type ≡ 0) ⊎ (tag_at pool catch_type ≡ 7)
+NamesCaught pool catch_type = (catch_type ≡ 0) ⊎ (tag_at pool catch_type ≡ pool_tag.class)
 
 -- what is caught where this program class is named, if it is one
 abbrev pub caught : Option ℕ → Catch

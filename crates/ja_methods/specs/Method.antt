@@ -1,6 +1,7 @@
 -- What a method of a program class is: its instructions, by what is known before them, and its handlers.
 use Rattle.std.specs.Prelude.{◌≡◌, ℕ, Bool, false, List, [], Option, Some, None, is_some, length, slice_get, slice_index_or}
 use Rattle.ja_base.specs.Descriptor.{AreTypes}
+use Rattle.ja_base.specs.AccessFlags.{acc_native}
 use Rattle.ja_pool.specs.Table.{Table}
 use Rattle.ja_code.specs.declared.instr.RawInstr.{RawInstr}
 use Rattle.ja_code.specs.declared.code.Code.{Code}
@@ -62,7 +63,7 @@ pub record IsCodeOf (class : ClassSpelled) (m : ℕ) (code : Code) : Type 0 wher
 
 -- ACC_NATIVE: the method's code is not in the class file (table 4.6-A)
 abbrev pub is_native : (flags : ℕ) → Bool
-is_native flags = has_flag flags 0x0100
+is_native flags = has_flag flags acc_native
 
 -- method m of the class is declared so, with this code
 pub record IsDeclared (class : ClassSpelled) (m : ℕ) (head : HeadMethod) (body : ClassMethod) : Type 0 where

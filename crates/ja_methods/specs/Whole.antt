@@ -1,5 +1,6 @@
 -- What a whole program asks of each method, as far as other methods have no part in it.
 use Rattle.std.specs.Prelude.{◌≡◌, ℕ, ◌+◌, ◌<◌, ◌≤◌, ◌↔◌, true, false, List, Some, All, length, slice_get}
+use Rattle.ja_base.specs.Limit.{max_frame_values}
 use Rattle.ja_base.specs.Descriptor.{AreTypes}
 use Rattle.ja_ir.specs.declared.head.ClassHead.{ClassHead}
 use Rattle.ja_ir.specs.declared.method.Method.{Method}
@@ -32,7 +33,7 @@ pub record LiesWithin (heads : List ClassHead) (size : ℕ) (handler : Handler) 
 -- name only its own instructions and the program's classes, it can begin, each reached instruction can go on, and its returns
 -- agree with its types
 pub record IsWholeIn (heads : List ClassHead) (method : Method) : Type 0 where
-  pub frame : method.locals + method.stack ≤ 512
+  pub frame : method.locals + method.stack ≤ max_frame_values
   pub spelled : AreTypes method.desc method.types
   pub code : HasCode method ↔ (is_abstract method.flags ≡ false)
   pub next : All (λ instr. All (λ j. j < length method.code) instr.next) method.code

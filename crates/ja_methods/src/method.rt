@@ -14,6 +14,7 @@ use crate::handler::handlers_of;
 use crate::instr::{Scene, instrs_of};
 use crate::law::law_one_method;
 use crate::site::{MethodSites, sites_of};
+use ja_base::access_flags::NATIVE;
 use ja_base::{ClassId, Desc, Memory, Name, Seq};
 use ja_class::Class;
 use ja_code::Code;
@@ -23,9 +24,6 @@ use ja_kinds::kinds;
 use ja_lib::Table;
 use ja_operations::{law_each_is_profiled, types_of};
 use std::alloc::Global;
-
-/// ACC_NATIVE (JVM specification table 4.6-A).
-const NATIVE: u32 = 0x0100;
 
 /// A method with its sink calls.
 #[derive(Drop)]
@@ -45,7 +43,7 @@ struct Content {
 fn is_native(head: &HeadMethod) -> bool
     ensures { result ≡ is_native head.now.flags }
 {
-    head.flags & NATIVE != 0
+    head.flags & u32::from(NATIVE) != 0
 }
 
 /// The instructions and handlers of a method with this code.

@@ -1,5 +1,4 @@
 mod Members
-mod FieldTypes
 mod Words
 mod FirstRows
 pub mod OneOperation

@@ -1,5 +1,6 @@
 -- What an instruction does: one of 23 operations, by its opcode and what it names (JVM specification 6.5).
 use Rattle.std.specs.Prelude.{◌≡◌, ℕ, ◌==◌, false, List, length, min, Option, Some, if◌then◌else◌}
+use Rattle.ja_base.specs.Tag as pool_tag
 use Rattle.ja_base.specs.declared.java_type.Kind.TheVariants.{P1}
 use Rattle.ja_base.specs.Descriptor.{IsMethod}
 use Rattle.ja_pool.specs.Table.{Table}
@@ -30,7 +31,7 @@ use Rattle.ja_operations.specs.Refused.{is_reflective, StartsThread}
 
 -- what loads a constant with this tag: a text, a class object, or else a number
 abbrev pub loaded : List ClassHead → (tag : ℕ) → Op
-loaded heads tag = if tag == 8 then ops.Text else if tag == 7 then ops.New (library_token heads) else ops.Const P1
+loaded heads tag = if tag == pool_tag.string then ops.Text else if tag == pool_tag.class then ops.New (library_token heads) else ops.Const P1
 
 -- the local that an instruction uses; its place is spelled in at most two bytes
 abbrev pub local_of : Source → RawInstr → ℕ

@@ -1,5 +1,6 @@
 -- What a class file of the profile gives for an instruction (JVM specification 4.9.1).
 use Rattle.std.specs.Prelude.{◌≡◌, ◌≤◌, IsTrue, Some}
+use Rattle.ja_base.specs.Tag as pool_tag
 use Rattle.ja_bytes.specs.DescriptorText.{IsFieldDesc, IsMethodText}
 use Rattle.ja_pool.specs.Table.{Table, is_member_tag}
 use Rattle.ja_code.specs.declared.instr.RawInstr.{RawInstr}
@@ -11,7 +12,7 @@ use Rattle.ja_operations.specs.Names.{tag_named, desc_in}
 
 -- the instruction names a class
 abbrev pub NamesClass : Table → RawInstr → Type 0
-NamesClass pool i = tag_named pool i ≡ 7
+NamesClass pool i = tag_named pool i ≡ pool_tag.class
 
 -- it names a member, whose descriptor is that of a field
 pub record NamesSomeField (pool : Table) (i : RawInstr) : Type 0 where

@@ -2,6 +2,7 @@
 use Rattle.std.specs.Prelude.{◌≡◌, ℕ, true, List, codes, Option, Some, None, slice_get}
 use Rattle.ja_code.specs.declared.behaviour.Invocation.{Invocation}
 use Rattle.ja_code.specs.declared.behaviour.Invocation.TheVariants as invocations
+use Rattle.ja_base.specs.AccessFlags.{acc_super}
 use Rattle.ja_ir.specs.declared.head.ClassHead.{ClassHead}
 use Rattle.ja_ir.specs.declared.class.MethodAt.{MethodAt}
 use Rattle.ja_ir.specs.declared.class.MethodAt.TheVariants.{Library}
@@ -41,7 +42,7 @@ pub data IsProperSuperclass (heads : List ClassHead) (c : ℕ) (name : List ℕ)
 -- proper superclass
 pub record GoesAbove (heads : List ClassHead) (c : ℕ) (member : MemberRef) : Type 0 where
   pub no_constructor : member.name ≡ codes "<init>" → ⊥
-  pub flag : has_flag (flags_of_class (slice_get heads c)) 0x0020 ≡ true
+  pub flag : has_flag (flags_of_class (slice_get heads c)) acc_super ≡ true
   pub proper : IsProperSuperclass heads c member.class
 
 -- such a call begins at the direct superclass of class c

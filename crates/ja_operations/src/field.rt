@@ -4,9 +4,9 @@ ghost use Rattle.ja_ir.specs.declared.op.Op.TheVariants as ops;
 ghost use Rattle.ja_operations.specs.Fields.{IsFieldAt, static_read, member_read, member_write, CallsForeign, Accesses, WritesStatic};
 ghost use Rattle.ja_operations.specs.Refused.{RefusesAccess, RefusesStore, UnlessMemory};
 
-use crate::field_type::field_type;
 use crate::{MemberRef, OpFault};
 use ja_base::{JavaTypes, Memory, Numbers};
+use ja_bytes::field_type;
 use ja_hier::{FieldAt, Hier};
 use ja_ir::{CallKind, CallOp, LibRow, Op, RowEffect, RowFlow, RowResult};
 use ja_lib::Table;

@@ -4,7 +4,6 @@
 mod call;
 mod fault;
 mod field;
-mod field_type;
 mod law;
 mod member;
 mod operation;

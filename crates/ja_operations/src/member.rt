@@ -1,4 +1,5 @@
 ghost use Rattle.std.specs.Prelude.{◌≡◌, ◌≢◌, IfOk, IsTrue};
+ghost use Rattle.ja_base.specs.Tag as pool_tag;
 ghost use Rattle.ja_pool.specs.Table.{is_member_tag};
 ghost use Rattle.ja_code.specs.Grammar.{operand_at};
 ghost use Rattle.ja_operations.specs.Names.{tag_named, class_in, member_in};
@@ -30,7 +31,7 @@ fn index_named(pool: &Pool, instr: &RawInstr) -> u32
 
 /// The name of the class that an instruction names.
 pub(crate) fn class_named<'a>(pool: &'a Pool, instr: &RawInstr) -> &'a [u8]
-    requires { tag_named pool.now instr.now ≡ 7 }
+    requires { tag_named pool.now instr.now ≡ pool_tag.class }
     ensures { result.now ≡ class_in pool.now instr.now }
 {
     pool.class_name(index_named(pool, instr))

@@ -18,6 +18,7 @@ use crate::field::{get_field, get_static, put_field, put_static};
 use crate::member::{class_named, member_named};
 use crate::shuffle::shuffle_after;
 use crate::token::{library_token, token_of_array, token_of_class, token_of_innermost};
+use ja_base::tag::{CLASS, STRING};
 use ja_base::{ClassId, Kind, Name};
 use ja_code::{
     Behaviour, Elements, FieldAccess, Invocation, Operands, RawInstr, Rearrangement, Source,
@@ -56,8 +57,8 @@ fn loaded(hier: &Hier, tag: u8) -> Op
     ensures { result ≡ loaded hier.now tag }
 {
     match tag {
-        8 => Op::Text,
-        7 => Op::New(library_token(hier)),
+        STRING => Op::Text,
+        CLASS => Op::New(library_token(hier)),
         _ => Op::Const(Kind::P1),
     }
 }

@@ -28,14 +28,14 @@ fn default_row(alloc: Global, table: &Table) -> Result<LibRow, Memory>
 fn copy_row(alloc: Global, row: &LibRow) -> Result<LibRow, Memory>
     ensures { IfOk result (λ copy. copy ≡ row.now) }
 {
-    let sinks = Vec::from_slice(alloc, row.sinks.as_slice())?;
-    let marks = Vec::from_slice(alloc, row.marks.as_slice())?;
+    let sinks = Numbers::copy_of(alloc, row.sinks.as_slice())?;
+    let marks = Flags::copy_of(alloc, row.marks.as_slice())?;
     Ok(LibRow {
         flow: row.flow,
         effect: row.effect,
         result: row.result,
-        sinks: Numbers::from_vec(sinks),
-        marks: Flags::from_vec(marks),
+        sinks,
+        marks,
         category: row.category,
     })
 }

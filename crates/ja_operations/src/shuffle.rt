@@ -46,7 +46,7 @@ fn shuffle(alloc: Global, step: WayToMove<'_>) -> Result<Op, Memory>
     requires { IsTrue (is_short (move_seen step)) }
     ensures { IfOk result (λ op. op ≡ shuffle_of (move_seen step.entry)) }
 {
-    let pushes = Numbers::from_vec(Vec::from_slice(alloc, step.pushes)?);
+    let pushes = Numbers::copy_of(alloc, step.pushes)?;
     Ok(Op::Shuffle {
         pops: step.takes.len() as u32,
         pushes,

@@ -1,9 +1,11 @@
 ghost use Rattle.std.specs.Prelude.{◌≡◌, ◌<◌, ◌↔◌, length, IsTrue, Some};
+ghost use Rattle.ja_base.specs.AccessFlags.{acc_super};
 ghost use Rattle.ja_ir.specs.Lookup.{has_flag};
 ghost use Rattle.ja_supertypes.specs.LibraryTypes.{IsNearest};
 ghost use Rattle.ja_operations.specs.Targets.{FindsFrom, IsProperSuperclass, GoesAbove, BeginsAt, FindsSpecial, LooksUp, IsFound};
 
 use crate::MemberRef;
+use ja_base::access_flags::SUPER;
 use ja_base::{ClassId, Name};
 use ja_hier::Hier;
 use ja_ir::{CallKind, MethodAt};
@@ -47,9 +49,9 @@ fn is_proper_superclass(hier: &Hier, c: ClassId, name: &Name) -> bool
 
 /// Whether the class has the flag ACC_SUPER (JVM specification table 4.1-A).
 fn has_super_flag(flags: u32) -> bool
-    ensures { result ≡ has_flag flags 0x0020 }
+    ensures { result ≡ has_flag flags acc_super }
 {
-    flags & 0x0020 != 0
+    flags & u32::from(SUPER) != 0
 }
 
 /// Whether a special call in a class begins above it, as far as its direct superclass is not asked.

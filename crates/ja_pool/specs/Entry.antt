@@ -1,6 +1,7 @@
 -- The entries of a constant pool, and how each is spelled (JVM specification 4.4).
 use Rattle.std.specs.Prelude.{ℕ, ◌<◌, ◌^◌, Bool, IsTrue, List, [], ◌∷◌, ◌++◌, length}
 use Rattle.std.specs.Int.{w16, w32, w64, to_be_bytes}
+use Rattle.ja_base.specs.Tag as pool_tag
 use Rattle.ja_base.specs.Descriptor.{is_one_of}
 use Rattle.ja_bytes.specs.Text.{IsModifiedUtf8}
 
@@ -15,28 +16,28 @@ pub data Entry : Type 0 where
 
 -- Integer, Float
 abbrev pub is_number_tag : ℕ → Bool
-is_number_tag = is_one_of (3 ∷ 4 ∷ [])
+is_number_tag = is_one_of (pool_tag.integer ∷ pool_tag.float ∷ [])
 
 -- Long, Double
 abbrev pub is_wide_tag : ℕ → Bool
-is_wide_tag = is_one_of (5 ∷ 6 ∷ [])
+is_wide_tag = is_one_of (pool_tag.long ∷ pool_tag.double ∷ [])
 
 -- Class, String, MethodType
 abbrev pub is_single_tag : ℕ → Bool
-is_single_tag = is_one_of (7 ∷ 8 ∷ 16 ∷ [])
+is_single_tag = is_one_of (pool_tag.class ∷ pool_tag.string ∷ pool_tag.method_type ∷ [])
 
 -- Fieldref, Methodref, InterfaceMethodref, NameAndType, InvokeDynamic
 abbrev pub is_pair_tag : ℕ → Bool
-is_pair_tag = is_one_of (9 ∷ 10 ∷ 11 ∷ 12 ∷ 18 ∷ [])
+is_pair_tag = is_one_of (pool_tag.field ∷ pool_tag.method ∷ pool_tag.interface_method ∷ pool_tag.name_and_type ∷ pool_tag.invoke_dynamic ∷ [])
 
--- the tag of an entry: 1 is a text's, 15 a method handle's
+-- the tag of an entry
 abbrev pub tag_of : Entry → ℕ
-tag_of (utf8 bytes) = 1
+tag_of (utf8 bytes) = pool_tag.utf8
 tag_of (number tag bits) = tag
 tag_of (wide tag bits) = tag
 tag_of (single tag index) = tag
 tag_of (pair tag first second) = tag
-tag_of (handle kind index) = 15
+tag_of (handle kind index) = pool_tag.method_handle
 
 -- the bytes of an entry behind its tag
 abbrev pub payload : Entry → List ℕ

@@ -2,6 +2,7 @@
 use Rattle.std.specs.Prelude.{◌≡◌, ℕ, ◌+◌, ◌<◌, ◌≤◌, ◌^◌, ◌⊎◌, Bool, false, IsTrue, List, [], ◌∷◌, ◌++◌, length, take, drop, Some, None, ◌==◌, ◌||◌, if◌then◌else◌}
 use Rattle.std.specs.Int.{w16, to_be_bytes, from_be_bytes}
 use Rattle.std.specs.List.{flat_map, AllByRecursion}
+use Rattle.ja_base.specs.Tag as pool_tag
 use Rattle.ja_bytes.specs.Reading.{Reading}
 use Rattle.ja_bytes.specs.Text.{IsFirstWrong}
 use Rattle.ja_pool.specs.declared.fault.PoolFault.{PoolFault}
@@ -33,13 +34,13 @@ pub record PassesPool (old new : Reading) (table : Table) : Type 0 where
 
 -- a tag of some entry
 abbrev pub is_tag : ℕ → Bool
-is_tag tag = tag == 1 || (is_number_tag tag || (is_wide_tag tag || (is_single_tag tag || (is_pair_tag tag || tag == 15))))
+is_tag tag = tag == pool_tag.utf8 || (is_number_tag tag || (is_wide_tag tag || (is_single_tag tag || (is_pair_tag tag || tag == pool_tag.method_handle))))
 
 -- the lengths of the fields behind a tag, where these bytes stand behind it: a text's length is in its first field, and
 -- the eight bytes of a Long or Double are one field
 abbrev pub fields_behind : ℕ → List ℕ → List ℕ
 fields_behind tag bytes =
-    if tag == 1 then 2 ∷ from_be_bytes w16 (take 2 bytes) ∷ []
+    if tag == pool_tag.utf8 then 2 ∷ from_be_bytes w16 (take 2 bytes) ∷ []
     else if is_number_tag tag then 4 ∷ []
     else if is_wide_tag tag then 8 ∷ []
     else if is_single_tag tag then 2 ∷ []
@@ -63,7 +64,7 @@ IsEntryFault place last (tag ∷ bytes) (End at) = IsTrue (is_tag tag) × (IsTru
 IsEntryFault place last (tag ∷ bytes) (BadTag at found) = (at ≡ place) × (found ≡ tag) × (is_tag tag ≡ false)
 IsEntryFault place last (tag ∷ bytes) (PoolWidth at) = (at ≡ place) × IsTrue last × IsTrue (is_wide_tag tag)
 IsEntryFault place last (tag ∷ bytes) (BadText at) =
-    (tag ≡ 1) × (text : List ℕ) × (more : List ℕ) × (wrong : ℕ) × (length text < 2 ^ 16) × (bytes ≡ to_be_bytes w16 (length text) ++ (text ++ more))
+    (tag ≡ pool_tag.utf8) × (text : List ℕ) × (more : List ℕ) × (wrong : ℕ) × (length text < 2 ^ 16) × (bytes ≡ to_be_bytes w16 (length text) ++ (text ++ more))
     × IsFirstWrong text wrong × (at ≡ place + 3 + wrong)
 IsEntryFault place last (tag ∷ bytes) (BadIndex at) = ⊥
 IsEntryFault place last (tag ∷ bytes) Memory = ⊥

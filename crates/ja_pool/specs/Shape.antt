@@ -2,6 +2,7 @@
 use Rattle.std.specs.Prelude.{◌≡◌, ℕ, ◌+◌, ◌-◌, ◌<◌, ◌^◌, Bool, true, false, IsTrue, List, [], ◌∷◌, ◌++◌, length, ◌==◌, ◌⊎◌, Some, None}
 use Rattle.std.specs.Int.{w16, to_be_bytes}
 use Rattle.std.specs.List.{flat_map, AllByRecursion}
+use Rattle.ja_base.specs.Tag as pool_tag
 use Rattle.ja_bytes.specs.Reading.{Reading, Passes}
 use Rattle.ja_bytes.specs.Text.{IsFirstWrong}
 use Rattle.ja_pool.specs.declared.fault.PoolFault.{PoolFault}
@@ -17,12 +18,12 @@ use Rattle.ja_pool.specs.Slot.{form_of, slot_of, nothing, pad_slots, slots_from}
 
 -- the tag is one of this form
 abbrev pub HasShape : ℕ → Shape → Type 0
-HasShape tag Utf8 = tag ≡ 1
+HasShape tag Utf8 = tag ≡ pool_tag.utf8
 HasShape tag Number = IsTrue (is_number_tag tag)
 HasShape tag Wide = IsTrue (is_wide_tag tag)
 HasShape tag Single = IsTrue (is_single_tag tag)
 HasShape tag Pair = IsTrue (is_pair_tag tag)
-HasShape tag Handle = tag ≡ 15
+HasShape tag Handle = tag ≡ pool_tag.method_handle
 
 -- a reader passes what stands behind the tag of an entry, and holds it in this form
 pub record ReadsPayload (old new : Reading) (tag base : ℕ) (form : Form) : Type 0 where
@@ -38,7 +39,7 @@ IsPayloadFault place tag bytes (End at) = EndsInside (fields_behind tag bytes) p
 IsPayloadFault place tag bytes (BadTag at found) = ⊥
 IsPayloadFault place tag bytes (PoolWidth at) = ⊥
 IsPayloadFault place tag bytes (BadText at) =
-    (tag ≡ 1) × (text : List ℕ) × (more : List ℕ) × (wrong : ℕ) × (length text < 2 ^ 16) × (bytes ≡ to_be_bytes w16 (length text) ++ (text ++ more))
+    (tag ≡ pool_tag.utf8) × (text : List ℕ) × (more : List ℕ) × (wrong : ℕ) × (length text < 2 ^ 16) × (bytes ≡ to_be_bytes w16 (length text) ++ (text ++ more))
     × IsFirstWrong text wrong × (at ≡ place + 2 + wrong)
 IsPayloadFault place tag bytes (BadIndex at) = ⊥
 IsPayloadFault place tag bytes Memory = ⊥

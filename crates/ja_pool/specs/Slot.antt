@@ -1,6 +1,7 @@
 -- How the pool is held: what stands at each index, and the bytes of the texts. Only private functions speak of it.
 use Rattle.std.specs.Prelude.{ℕ, ◌+◌, ◌≤◌, List, [], ◌∷◌, length, take, drop, map, All, IsTrue, Option, Some, None, option_map}
 use Rattle.std.specs.List.{find}
+use Rattle.ja_base.specs.Tag as pool_tag
 use Rattle.ja_pool.specs.declared.slot.Form.{Form}
 use Rattle.ja_pool.specs.declared.slot.Form.TheVariants.{Unusable, Utf8, Number, Wide, Single, Pair, Handle}
 use Rattle.ja_pool.specs.declared.slot.Slot.{Slot}
@@ -9,12 +10,12 @@ use Rattle.ja_pool.specs.Table.{Placed, IndexField, entry_fields, is_wrong}
 
 abbrev pub form_tag : Form → ℕ
 form_tag Unusable = 0
-form_tag (Utf8 from len) = 1
+form_tag (Utf8 from len) = pool_tag.utf8
 form_tag (Number tag bits) = tag
 form_tag (Wide tag bits) = tag
 form_tag (Single tag index) = tag
 form_tag (Pair tag first second) = tag
-form_tag (Handle kind index) = 15
+form_tag (Handle kind index) = pool_tag.method_handle
 
 -- what stands at an index, where these are the pool's bytes
 abbrev pub seen_form : List ℕ → ℕ → Form → Option Placed

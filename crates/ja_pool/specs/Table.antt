@@ -1,6 +1,7 @@
 -- The constant pool as a table, and what its indices name.
 use Rattle.std.specs.Prelude.{◌≡◌, ℕ, ◌+◌, Bool, List, [], ◌∷◌, length, slice_index_or, take, map, not, Option, Some, None, ◌==◌, if◌then◌else◌}
 use Rattle.std.specs.List.{find, flat_map, take_while}
+use Rattle.ja_base.specs.Tag as pool_tag
 use Rattle.ja_base.specs.Descriptor.{is_one_of}
 use Rattle.ja_pool.specs.Entry.{Entry, utf8, number, wide, single, pair, handle, tag_of, spelling}
 
@@ -109,7 +110,7 @@ abbrev pub brackets_of : List ℕ → ℕ
 brackets_of text = length (take_while is_bracket (take 255 text))
 
 abbrev pub dims_in : Table → Option Placed → ℕ
-dims_in table entry = if entry_tag entry == 7 then brackets_of (text_at table (entry_first entry)) else 0
+dims_in table entry = if entry_tag entry == pool_tag.class then brackets_of (text_at table (entry_first entry)) else 0
 
 -- by index, the brackets with which the name of a class begins, and 0 at what is no class
 abbrev pub dims_of : Table → List ℕ
@@ -135,16 +136,16 @@ is_wrong tags f = not (is_wanted f.wants (slice_index_or tags f.index 0))
 -- bytes of any value, a name with its type
 abbrev pub pair_fields : (place tag first second : ℕ) → List IndexField
 pair_fields place tag first second =
-    if tag == 12 then record { place = place + 1; index = first; wants = Some 1 } ∷ record { place = place + 3; index = second; wants = Some 1 } ∷ []
-    else if tag == 18 then record { place = place + 3; index = second; wants = Some 12 } ∷ []
-    else record { place = place + 1; index = first; wants = Some 7 } ∷ record { place = place + 3; index = second; wants = Some 12 } ∷ []
+    if tag == pool_tag.name_and_type then record { place = place + 1; index = first; wants = Some pool_tag.utf8 } ∷ record { place = place + 3; index = second; wants = Some pool_tag.utf8 } ∷ []
+    else if tag == pool_tag.invoke_dynamic then record { place = place + 3; index = second; wants = Some pool_tag.name_and_type } ∷ []
+    else record { place = place + 1; index = first; wants = Some pool_tag.class } ∷ record { place = place + 3; index = second; wants = Some pool_tag.name_and_type } ∷ []
 
 -- the index fields of an entry, in their order
 abbrev pub fields_in : ℕ → Entry → List IndexField
 fields_in place (utf8 bytes) = []
 fields_in place (number tag bits) = []
 fields_in place (wide tag bits) = []
-fields_in place (single tag index) = record { place = place + 1; index = index; wants = Some 1 } ∷ []
+fields_in place (single tag index) = record { place = place + 1; index = index; wants = Some pool_tag.utf8 } ∷ []
 fields_in place (pair tag first second) = pair_fields place tag first second
 fields_in place (handle kind index) = record { place = place + 2; index = index; wants = None } ∷ []
 
@@ -174,8 +175,8 @@ IsAt table i e = (place : ℕ) × (slice_index_or table i None ≡ Some (record 
 
 -- a constant whose tag is one of Integer, Float, Long, Double, Class and String
 abbrev pub is_constant_tag : ℕ → Bool
-is_constant_tag = is_one_of (3 ∷ 4 ∷ 5 ∷ 6 ∷ 7 ∷ 8 ∷ [])
+is_constant_tag = is_one_of (pool_tag.integer ∷ pool_tag.float ∷ pool_tag.long ∷ pool_tag.double ∷ pool_tag.class ∷ pool_tag.string ∷ [])
 
 -- a field, a method or a method of an interface
 abbrev pub is_member_tag : ℕ → Bool
-is_member_tag = is_one_of (9 ∷ 10 ∷ 11 ∷ [])
+is_member_tag = is_one_of (pool_tag.field ∷ pool_tag.method ∷ pool_tag.interface_method ∷ [])

@@ -7,6 +7,7 @@ ghost use Rattle.ja_pool.specs.Slot.{slot_fields, wrong_place};
 
 use crate::look::byte_at;
 use crate::slot::{Form, Slot};
+use ja_base::tag::{CLASS, INVOKE_DYNAMIC, NAME_AND_TYPE, UTF8};
 
 /// Whether an index does not name an entry with the tag that is wanted, or any where none is.
 fn is_wrong_index(tags: &[u8], index: u16, wants: Option<u8>) -> bool
@@ -39,15 +40,15 @@ fn wrong_in_pair(tags: &[u8], place: u64, tag: u8, first: u16, second: u16) -> O
     ensures { result ≡ wrong_place tags.now (pair_fields place tag first second) }
 {
     match tag {
-        12 => wrong_of_two(tags, place, (first, 1), (second, 1)),
-        18 => {
-            if is_wrong_index(tags, second, Some(12)) {
+        NAME_AND_TYPE => wrong_of_two(tags, place, (first, UTF8), (second, UTF8)),
+        INVOKE_DYNAMIC => {
+            if is_wrong_index(tags, second, Some(NAME_AND_TYPE)) {
                 Some(place + 3)
             } else {
                 None
             }
         }
-        _ => wrong_of_two(tags, place, (first, 7), (second, 12)),
+        _ => wrong_of_two(tags, place, (first, CLASS), (second, NAME_AND_TYPE)),
     }
 }
 
@@ -59,7 +60,7 @@ fn wrong_in(tags: &[u8], slot: Slot) -> Option<u64>
     let place = slot.place;
     match slot.form {
         Form::Single { index, .. } => {
-            if is_wrong_index(tags, index, Some(1)) {
+            if is_wrong_index(tags, index, Some(UTF8)) {
                 Some(place + 1)
             } else {
                 None

@@ -9,6 +9,7 @@ ghost use Rattle.ja_pool.specs.Slot.{nothing, seen, form_first, form_second, for
 use crate::constant::{Constant, Member};
 use crate::slot::{Form, NOTHING, Slot};
 use ja_base::Memory;
+use ja_base::tag::{CLASS, INTEGER, LONG, STRING};
 use std::alloc::Global;
 
 /// The byte at an index, 0 past the end.
@@ -68,7 +69,7 @@ fn slot_dims(bytes: &[u8], slots: &[Slot], slot: Slot) -> u8
     requires { AreInside bytes.now slots.now }
     ensures { result ≡ dims_in (table_in bytes.now slots.now) (seen bytes.now slot) }
 {
-    if slot.form.tag() == 7 {
+    if slot.form.tag() == CLASS {
         brackets(text_in(bytes, slots, u32::from(slot.form.first())))
     } else {
         0
@@ -132,21 +133,21 @@ fn constant_of(form: Form) -> Constant
 {
     match form {
         Form::Number { tag, bits } => {
-            if tag == 3 {
+            if tag == INTEGER {
                 Constant::Integer(bits)
             } else {
                 Constant::Float(bits)
             }
         }
         Form::Wide { tag, bits } => {
-            if tag == 5 {
+            if tag == LONG {
                 Constant::Long(bits)
             } else {
                 Constant::Double(bits)
             }
         }
         Form::Single { tag, index } => {
-            if tag == 8 {
+            if tag == STRING {
                 Constant::Text(u32::from(index))
             } else {
                 Constant::Class(u32::from(index))

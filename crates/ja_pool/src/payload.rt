@@ -2,6 +2,7 @@
 
 ghost use Rattle.std.specs.Prelude.{◌≡◌, ◌+◌, ◌≤◌, length, IfOk, IfErr};
 ghost use Rattle.std.specs.Int.{w64, to_be_bytes};
+ghost use Rattle.ja_base.specs.Tag as pool_tag;
 ghost use Rattle.ja_pool.specs.Shape.{HasShape, ReadsPayload, IsPayloadFault};
 
 use crate::PoolFault;
@@ -11,7 +12,7 @@ use ja_bytes::{Cursor, modified_utf8};
 
 /// A text. Its place is held as an offset from `base`.
 fn text(c: &mut Cursor<'_>, tag: u8, base: u64) -> Result<Form, PoolFault>
-    requires shape { tag ≡ 1 }
+    requires shape { tag ≡ pool_tag.utf8 }
     requires behind { base + 1 ≤ c.old.place }
     ensures ok { IfOk result (ReadsPayload c.old c.new tag base) }
     ensures fault { IfErr result (IsPayloadFault c.old.place tag c.old.rest) }
@@ -101,7 +102,7 @@ fn pair(c: &mut Cursor<'_>, tag: u8, base: u64) -> Result<Form, PoolFault>
 
 /// The kind of a method handle and an index.
 fn handle(c: &mut Cursor<'_>, tag: u8, base: u64) -> Result<Form, PoolFault>
-    requires shape { tag ≡ 15 }
+    requires shape { tag ≡ pool_tag.method_handle }
     ensures ok { IfOk result (ReadsPayload c.old c.new tag base) }
     ensures fault { IfErr result (IsPayloadFault c.old.place tag c.old.rest) }
 {

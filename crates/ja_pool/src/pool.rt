@@ -1,4 +1,5 @@
 ghost use Rattle.std.specs.Prelude.{◌≡◌, ◌≢◌, ◌<◌, ◌^◌, IsTrue, length, IfOk};
+ghost use Rattle.ja_base.specs.Tag as pool_tag;
 
 use crate::constant::{Constant, Member};
 use crate::look::{all_dims, byte_at, class_in, constant_in, member_in, slot_at, text_in};
@@ -93,7 +94,7 @@ impl Pool {
 
     /// The text at an index.
     pub fn utf8(&self, i: u32) -> &[u8]
-        requires { tag_at self.now i ≡ 1 }
+        requires { tag_at self.now i ≡ pool_tag.utf8 }
         ensures { result.now ≡ text_at self.now i }
     {
         text_in(self.bytes.as_slice(), self.slots.as_slice(), i)
@@ -101,7 +102,7 @@ impl Pool {
 
     /// The name of the class at an index.
     pub fn class_name(&self, i: u32) -> &[u8]
-        requires { tag_at self.now i ≡ 7 }
+        requires { tag_at self.now i ≡ pool_tag.class }
         ensures { result.now ≡ class_name_at self.now i }
     {
         class_in(self.bytes.as_slice(), self.slots.as_slice(), i)

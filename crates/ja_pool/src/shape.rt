@@ -2,6 +2,11 @@ ghost use Rattle.std.specs.Prelude.{◌≡◌, false, IfSome, IfNone};
 ghost use Rattle.ja_pool.specs.Pool.{is_tag};
 ghost use Rattle.ja_pool.specs.Shape.{HasShape, is_wide_shape};
 
+use ja_base::tag::{
+    CLASS, DOUBLE, FIELD, FLOAT, INTEGER, INTERFACE_METHOD, INVOKE_DYNAMIC, LONG, METHOD,
+    METHOD_HANDLE, METHOD_TYPE, NAME_AND_TYPE, STRING, UTF8,
+};
+
 /// The form of the entries with a tag.
 #[derive(Clone, Copy)]
 pub enum Shape {
@@ -25,12 +30,12 @@ pub fn shape_of(tag: u8) -> Option<Shape>
     ensures none { IfNone result (is_tag tag ≡ false) }
 {
     match tag {
-        1 => Some(Shape::Utf8),
-        3 | 4 => Some(Shape::Number),
-        5 | 6 => Some(Shape::Wide),
-        7 | 8 | 16 => Some(Shape::Single),
-        9 | 10 | 11 | 12 | 18 => Some(Shape::Pair),
-        15 => Some(Shape::Handle),
+        UTF8 => Some(Shape::Utf8),
+        INTEGER | FLOAT => Some(Shape::Number),
+        LONG | DOUBLE => Some(Shape::Wide),
+        CLASS | STRING | METHOD_TYPE => Some(Shape::Single),
+        FIELD | METHOD | INTERFACE_METHOD | NAME_AND_TYPE | INVOKE_DYNAMIC => Some(Shape::Pair),
+        METHOD_HANDLE => Some(Shape::Handle),
         _ => None,
     }
 }

@@ -1,6 +1,7 @@
 ghost use Rattle.std.specs.Prelude.{◌≡◌, ◌∷◌, ◌++◌, OnOk};
 ghost use Rattle.ja_pool.specs.Slot.{form_tag, form_first, form_second, form_pad};
 
+use ja_base::tag::{METHOD_HANDLE, UTF8};
 use std::alloc::AllocError;
 
 /// What stands at an index of the pool. A text is named by its place among the pool's bytes.
@@ -35,12 +36,12 @@ impl Form {
     {
         match self {
             Form::Unusable => 0,
-            Form::Utf8 { .. } => 1,
+            Form::Utf8 { .. } => UTF8,
             Form::Number { tag, .. } => tag,
             Form::Wide { tag, .. } => tag,
             Form::Single { tag, .. } => tag,
             Form::Pair { tag, .. } => tag,
-            Form::Handle { .. } => 15,
+            Form::Handle { .. } => METHOD_HANDLE,
         }
     }
 

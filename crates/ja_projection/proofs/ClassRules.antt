@@ -2,11 +2,11 @@
 use Rattle.std.proofs.Common.{◌∙◌, ℕ, List, sym, subst}
 use Rattle.std.specs.Prelude.{Contains}
 use Rattle.ja_ir.specs.Handlers.{Inside, Outside}
-use Rattle.ja_facts.specs.ClassSets.{Fact, Rule, env_object, env_fresh, initialiser_runs, constructor_runs, entry_runs, constructor_receives, entry_receives, entry_takes, env_bag, next_reached, initialises, begins, moved, text_made, made, array_made, array_filled, got, got_static, put, put_static, text_field, element_got, element_put, throws_library, throws, handler_reached, handled, handler_keeps, thrown_out, found_method, found_abstract, found_library, selects_method, selects_abstract, selects_library, callee_reached, receives, hands, returned, answered, callee_throws, null_receiver, abstract_throws, library_throws, spans_itself, spans_field, spans_bag, taker, taken, library_fresh, library_filled, library_argument, library_member}
+use Rattle.ja_facts.specs.ClassSets.{Fact, Rule, env_object, env_fresh, initializer_runs, constructor_runs, entry_runs, constructor_receives, entry_receives, entry_takes, env_bag, next_reached, initializes, begins, moved, text_made, made, array_made, array_filled, got, got_static, put, put_static, text_field, element_got, element_put, throws_library, throws, handler_reached, handled, handler_keeps, thrown_out, found_method, found_abstract, found_library, selects_method, selects_abstract, selects_library, callee_reached, receives, hands, returned, answered, callee_throws, null_receiver, abstract_throws, library_throws, spans_itself, spans_field, spans_bag, taker, taken, library_fresh, library_filled, library_argument, library_member}
 use Rattle.ja_facts.specs.Held.{Fact as HeldFact, Rule as HeldRule, holds_field, holds_bag, of_field}
 use Rattle.ja_projection.proofs.Changes.{Change, changed}
 use Rattle.ja_projection.proofs.Classes.{same-fits, same-absorbs, same-fresh, same-bagged}
-use Rattle.ja_projection.proofs.Premises.{copies, throws-library, finds, can-be-called, is-source, leads-from, has-reference, method-at, op-at, still-at, call-at, leads, passes, goes, init-at, entry-at, is-entry, has-objects, is-constructor, is-initialiser, has-field, is-outer, is-inner, dispatches}
+use Rattle.ja_projection.proofs.Premises.{copies, throws-library, finds, can-be-called, is-source, leads-from, has-reference, method-at, op-at, still-at, call-at, leads, passes, goes, init-at, entry-at, is-entry, has-objects, is-constructor, is-initializer, has-field, is-outer, is-inner, dispatches}
 
 module _ (w : Change) where
   pub class-rule : (ps : List Fact) (f : Fact) → Rule w.program ps f → Rule (changed w) ps f
@@ -14,7 +14,7 @@ module _ (w : Change) where
   class-rule _ _ (env_fresh entry method k t type x h c) =
       let it = is-entry w x in
       env_fresh (record entry { marked = it.marked }) (record method { code = it.has.code }) k t type it.has.has h (subst (λ (ts : List ℕ). Contains ts t) (sym (same-fresh w type)) c)
-  class-rule _ _ (initialiser_runs x) = initialiser_runs (is-initialiser w x)
+  class-rule _ _ (initializer_runs x) = initializer_runs (is-initializer w x)
   class-rule _ _ (constructor_runs {m = m} entry h c) = let it = has-objects w h in constructor_runs (record entry { marked = it.marked }) it.has (is-constructor w entry.class.0 m c)
   class-rule _ _ (entry_runs entry l) = let it = entry-at w entry l in entry_runs (record entry { marked = it.marked }) it.has
   class-rule _ _ (constructor_receives {m = m} entry h c) = let it = has-objects w h in constructor_receives (record entry { marked = it.marked }) it.has (is-constructor w entry.class.0 m c)
@@ -24,7 +24,7 @@ module _ (w : Change) where
       entry_takes (record entry { marked = it.marked }) (record method { code = it.has.code }) k type it.has.has h r (same-fits w t type.name ∙ fit)
   class-rule _ _ (env_bag b) = env_bag b
   class-rule _ _ (next_reached l) = next_reached (leads w l)
-  class-rule _ _ (initialises x) = initialises (init-at w x)
+  class-rule _ _ (initializes x) = initializes (init-at w x)
   class-rule _ _ (begins {m = m} method e) = let it = method-at w m method e in begins (record method { code = it.code }) it.has
   class-rule _ _ (moved {t = t} {height = height} {z = z} o l c s) = let it = op-at w o in moved it.has (leads w l) (copies it.related c) (passes w height z t it.related s)
   class-rule _ _ (text_made o l) = text_made (still-at w o tt) (leads w l)

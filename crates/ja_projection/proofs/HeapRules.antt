@@ -1,7 +1,7 @@
 -- The rules of pairs and effects after a change that keeps the call graph.
 use Rattle.std.proofs.Common.{List, [], ◌∷◌}
 use Rattle.ja_facts.specs.ClassSets.{Fact as ClassFact}
-use Rattle.ja_facts.specs.Sharing.{Fact, PairAt, Name, Old, start_name, root_name, Rule, turned, turned_within, statics_meet, statics_meet_old, run_begins, run_begins_old, entered_begins, entered_begins_old, kept, copied, made, taken, taken_meets, static_taken, static_taken_meets, static_taken_shares, written, static_written, within, absorbed, library_ends, library_throws, library_meets, library_argument, library_argument_meets, library_member, crossing_kept, affected_meets, affected_answer, answer_meets, answer_meets_itself, throws_new, throw_kept, thrown, thrown_meets, written_effect, static_effect, library_effect, entered_effect}
+use Rattle.ja_facts.specs.Sharing.{Fact, PairAt, Name, Old, start_name, root_name, Rule, turned, turned_within, statics_meet, statics_meet_old, run_begins, run_begins_old, entered_begins, entered_begins_old, kept, copied, made, object_loaded, object_loaded_meets, static_loaded, static_loaded_meets, static_loaded_shares, written, static_written, within, absorbed, library_ends, library_throws, library_meets, library_argument, library_argument_meets, library_member, crossing_kept, affected_meets, affected_answer, answer_meets, answer_meets_itself, throws_new, throw_kept, thrown, thrown_meets, written_effect, static_effect, library_effect, entered_effect}
 use Rattle.ja_projection.proofs.Changes.{Change, changed}
 use Rattle.ja_projection.proofs.Premises.{is-source, leads-from, method-at, instr-at, still-at, is-handled, is-run}
 use Rattle.ja_projection.proofs.Steps.{started, is-reference, takes-no_call, static-no_call, writes-no_call, writes_static-no_call, makes-no_call, enters, crosses, step, library-call, library-answer, library-ends, raises-new, throws-to}
@@ -34,11 +34,11 @@ module _ (w : Change) (C D : ClassFact → Type 0) (known : (f : ClassFact) → 
   heap-rule _ _ (kept s n a b) = kept (step w C D known s n) n a b
   heap-rule _ _ (copied s n x y d) = copied (step w C D known s n) n x y d
   heap-rule _ _ (made s x) = made (step w C D known s (makes-no_call x)) x
-  heap-rule _ _ (taken s x k) = taken (step w C D known s (takes-no_call x)) x k
-  heap-rule _ _ (taken_meets s x) = taken_meets (step w C D known s (takes-no_call x)) x
-  heap-rule _ _ (static_taken s x k) = static_taken (step w C D known s (static-no_call x)) x k
-  heap-rule _ _ (static_taken_meets s x) = static_taken_meets (step w C D known s (static-no_call x)) x
-  heap-rule _ _ (static_taken_shares s x) = static_taken_shares (step w C D known s (static-no_call x)) x
+  heap-rule _ _ (object_loaded s x k) = object_loaded (step w C D known s (takes-no_call x)) x k
+  heap-rule _ _ (object_loaded_meets s x) = object_loaded_meets (step w C D known s (takes-no_call x)) x
+  heap-rule _ _ (static_loaded s x k) = static_loaded (step w C D known s (static-no_call x)) x k
+  heap-rule _ _ (static_loaded_meets s x) = static_loaded_meets (step w C D known s (static-no_call x)) x
+  heap-rule _ _ (static_loaded_shares s x) = static_loaded_shares (step w C D known s (static-no_call x)) x
   heap-rule _ _ (written s x l a b) = written (step w C D known s (writes-no_call x)) x l a b
   heap-rule _ _ (static_written s x k) = static_written (step w C D known s (writes_static-no_call x)) x k
   heap-rule _ _ (within l) = within (library-call w C D known l).has

@@ -24,7 +24,7 @@ use Rattle.ja_ir.specs.Entries.{is_constructor}
 use Rattle.ja_ir.specs.Handlers.{Place, dest, dest_among, handlers_of}
 use Rattle.ja_ir.specs.Initializing.{InitAt, inits_of, inits_of_field, inits_of_method, inits_of_call}
 use Rattle.ja_facts.specs.Slots.{Slot, OnStack, Copies, kept_local, kept_stack, CallAt}
-use Rattle.ja_facts.specs.Actions.{IsInitialiser, IsConstructor, IsEntry, HasObjects, IsRun, runs_initialiser, runs_constructor, runs_entry}
+use Rattle.ja_facts.specs.Actions.{IsInitializer, IsConstructor, IsEntry, HasObjects, IsRun, runs_initializer, runs_constructor, runs_entry}
 use Rattle.ja_facts.specs.ClassSets.{HasField, Passes, IsOuter, single, nested, IsInner, innermost, between, ThrowsLibrary, Finds, by_static, by_special, in_static_field, in_member_field, CanBeCalled, Dispatches, selected, elsewhere, IsSource, LeadsFrom, HasReference}
 use Rattle.ja_facts.specs.Crossings.{IsHandled}
 use Rattle.ja_facts.specs.Sharing.{IsNoCall, ThrowsNew, new_by_choice, new_for_receiver}
@@ -233,13 +233,13 @@ module _ (w : Change) where
   pub is-constructor : (c m : ℕ) → IsConstructor w.program c m → IsConstructor (changed w) c m
   is-constructor c m x = same_position SameMethod (is_constructor c) (same-constructor c) 0 w.program.methods w.methods w.same_methods ∙ x
 
-  pub is-initialiser : {m : ℕ} → IsInitialiser w.program m → IsInitialiser (changed w) m
-  is-initialiser x =
+  pub is-initializer : {m : ℕ} → IsInitializer w.program m → IsInitializer (changed w) m
+  is-initializer x =
       let it = entry-at x.entry x.listed in
-      record { entry = record x.entry { marked = it.marked }; listed = it.has; initialises = x.initialises }
+      record { entry = record x.entry { marked = it.marked }; listed = it.has; initializes = x.initializes }
 
   pub is-run : {m : ℕ} → IsRun w.program m → IsRun (changed w) m
-  is-run (runs_initialiser x) = runs_initialiser (is-initialiser x)
+  is-run (runs_initializer x) = runs_initializer (is-initializer x)
   is-run {m = m} (runs_constructor entry objects c) =
       let it = has-objects objects in
       runs_constructor (record entry { marked = it.marked }) it.has (is-constructor entry.class.0 m c)

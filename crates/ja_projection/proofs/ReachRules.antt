@@ -4,7 +4,7 @@ use Rattle.ja_ir.specs.Params.{param_local}
 use Rattle.ja_facts.specs.Slots.{Local, argument}
 use Rattle.ja_facts.specs.ClassSets.{Fact as ClassFact}
 use Rattle.ja_facts.specs.Sharing.{Fact as HeapFact, Name, root_name}
-use Rattle.ja_facts.specs.Reaching.{Fact, ReachAt, Rule, run_begins, entered_begins, kept, copied, made, taken, taken_reached, taken_itself, static_taken, static_taken_reached, static_taken_itself, written, static_written, within, absorbed, library_ends, library_throws, library_itself, library_argument, library_argument_reached, library_argument_itself, library_member, library_member_reached, crossing_kept, affected_reaches, answer_reaches, answer_reached, answer_itself, throws_new, throw_kept, thrown, thrown_reached, thrown_itself}
+use Rattle.ja_facts.specs.Reaching.{Fact, ReachAt, Rule, run_begins, entered_begins, kept, copied, made, object_loaded, object_loaded_reached, object_loaded_itself, static_loaded, static_loaded_reached, static_loaded_itself, written, static_written, within, absorbed, library_ends, library_throws, library_itself, library_argument, library_argument_reached, library_argument_itself, library_member, library_member_reached, crossing_kept, affected_reaches, answer_reaches, answer_reached, answer_itself, throws_new, throw_kept, thrown, thrown_reached, thrown_itself}
 use Rattle.ja_projection.proofs.Changes.{Change, changed}
 use Rattle.ja_projection.proofs.Premises.{is-source, leads-from, method-at, is-handled, is-run}
 use Rattle.ja_projection.proofs.Steps.{started, is-reference, takes-no_call, static-no_call, writes-no_call, writes_static-no_call, makes-no_call, enters, crosses, step, library-call, library-answer, library-ends, raises-new, throws-to}
@@ -22,12 +22,12 @@ module _ (w : Change) (C D : ClassFact → Type 0) (known : (f : ClassFact) → 
   reach-rule _ _ (kept s n a b) = kept (step w C D known s n) n a b
   reach-rule _ _ (copied s n x y d) = copied (step w C D known s n) n x y d
   reach-rule _ _ (made s x) = made (step w C D known s (makes-no_call x)) x
-  reach-rule _ _ (taken s x b) = taken (step w C D known s (takes-no_call x)) x b
-  reach-rule _ _ (taken_reached s x l h a) = taken_reached (step w C D known s (takes-no_call x)) x l (shared _ h) a
-  reach-rule _ _ (taken_itself s x) = taken_itself (step w C D known s (takes-no_call x)) x
-  reach-rule _ _ (static_taken s x b) = static_taken (step w C D known s (static-no_call x)) x b
-  reach-rule _ _ (static_taken_reached s x l h a) = static_taken_reached (step w C D known s (static-no_call x)) x l (shared _ h) a
-  reach-rule _ _ (static_taken_itself s x) = static_taken_itself (step w C D known s (static-no_call x)) x
+  reach-rule _ _ (object_loaded s x b) = object_loaded (step w C D known s (takes-no_call x)) x b
+  reach-rule _ _ (object_loaded_reached s x l h a) = object_loaded_reached (step w C D known s (takes-no_call x)) x l (shared _ h) a
+  reach-rule _ _ (object_loaded_itself s x) = object_loaded_itself (step w C D known s (takes-no_call x)) x
+  reach-rule _ _ (static_loaded s x b) = static_loaded (step w C D known s (static-no_call x)) x b
+  reach-rule _ _ (static_loaded_reached s x l h a) = static_loaded_reached (step w C D known s (static-no_call x)) x l (shared _ h) a
+  reach-rule _ _ (static_loaded_itself s x) = static_loaded_itself (step w C D known s (static-no_call x)) x
   reach-rule _ _ (written s x a b) = written (step w C D known s (writes-no_call x)) x a b
   reach-rule _ _ (static_written s x b) = static_written (step w C D known s (writes_static-no_call x)) x b
   reach-rule _ _ (within l) = within (library-call w C D known l).has

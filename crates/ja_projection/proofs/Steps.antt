@@ -6,27 +6,27 @@ use Rattle.ja_ir.specs.declared.op.CallOp.{CallOp}
 use Rattle.ja_ir.specs.declared.op.Op.{Op}
 use Rattle.ja_facts.specs.Slots.{Slot}
 use Rattle.ja_facts.specs.ClassSets.{Fact as ClassFact}
-use Rattle.ja_facts.specs.Crossings.{Enters, by_call, by_initialiser, Crossing, Crosses, call_returns, call_throws, initialiser_returns}
-use Rattle.ja_facts.specs.Sharing.{Root, Arg, Fields, Name, start_name, IsReference, IsNoCall, Takes, takes_field, takes_element, TakesStatic, takes_static, Writes, writes_field, writes_element, WritesStatic, writes_static, Makes, makes_text, makes_object, makes_array, Step, LibraryCall, LibraryAnswer, LibraryEnds, ends_normally, ends_by_exception, RaisesNew, raised_here, raised_at_abstract, ThrowsTo}
+use Rattle.ja_facts.specs.Crossings.{Enters, by_call, by_initializer, Crossing, Crosses, call_returns, call_throws, initializer_returns}
+use Rattle.ja_facts.specs.Sharing.{Root, Arg, StaticFields, Name, start_name, IsReference, IsNoCall, Loads, loads_field, loads_element, LoadsStatic, loads_static, Writes, writes_field, writes_element, WritesStatic, writes_static, Makes, makes_text, makes_object, makes_array, Step, LibraryCall, LibraryAnswer, LibraryEnds, ends_normally, ends_by_exception, RaisesNew, raised_here, raised_at_abstract, ThrowsTo}
 use Rattle.ja_projection.proofs.Changes.{Change, changed}
 use Rattle.ja_projection.proofs.Premises.{Reflowed, throws-new, op-at, still-at, call-at, leads, is-handled, init-at}
 
 -- the parameters of a method do not depend on its code
 pub started : (F : Name → Type 0) (method : Method) (code : List Instr) (r : Root) → F (start_name (record method { code = code }) r) → F (start_name method r)
 started F method code (Arg k) h = h
-started F method code Fields h = h
+started F method code StaticFields h = h
 
 pub is-reference : (method : Method) (code : List Instr) (r : Root) → IsReference method r → IsReference (record method { code = code }) r
 is-reference method code (Arg k) h = h
-is-reference method code Fields h = h
+is-reference method code StaticFields h = h
 
 -- operations that are no calls
-pub takes-no_call : {op : Op} {height : ℕ} {x r : Slot} → Takes op height x r → IsNoCall op
-takes-no_call (takes_field e) = tt
-takes-no_call (takes_element e) = tt
+pub takes-no_call : {op : Op} {height : ℕ} {x r : Slot} → Loads op height x r → IsNoCall op
+takes-no_call (loads_field e) = tt
+takes-no_call (loads_element e) = tt
 
-pub static-no_call : {op : Op} {height : ℕ} {r : Slot} → TakesStatic op height r → IsNoCall op
-static-no_call takes_static = tt
+pub static-no_call : {op : Op} {height : ℕ} {r : Slot} → LoadsStatic op height r → IsNoCall op
+static-no_call loads_static = tt
 
 pub writes-no_call : {op : Op} {height : ℕ} {x v : Slot} → Writes op height x v → IsNoCall op
 writes-no_call (writes_field e) = tt
@@ -43,12 +43,12 @@ makes-no_call (makes_array e) = tt
 module _ (w : Change) (C D : ClassFact → Type 0) (known : (f : ClassFact) → C f → D f) where
   pub enters : {m i n count under : ℕ} → Enters w.program C m i n count under → Enters (changed w) D m i n count under
   enters (by_call k g c) = by_call (known _ k) (known _ g) (call-at w c).has
-  enters (by_initialiser k x o) = by_initialiser (known _ k) (init-at w x) (op-at w o).has
+  enters (by_initializer k x o) = by_initializer (known _ k) (init-at w x) (op-at w o).has
 
   pub crosses : {m i n : ℕ} {x : Crossing} → Crosses w.program C m i n x → Crosses (changed w) D m i n x
   crosses (call_returns k g c l) = call_returns (known _ k) (known _ g) (call-at w c).has (leads w l)
   crosses (call_throws k g c h) = call_throws (known _ k) (known _ g) (call-at w c).has (is-handled w h)
-  crosses (initialiser_returns k x o) = initialiser_returns (known _ k) (init-at w x) (op-at w o).has
+  crosses (initializer_returns k x o) = initializer_returns (known _ k) (init-at w x) (op-at w o).has
 
   pub step : {m i j height : ℕ} {op : Op} → Step w.program C m i j op height → IsNoCall op → Step (changed w) D m i j op height
   step x n = record { at = still-at w x.at n; reached = known _ x.reached; leads = leads w x.leads }

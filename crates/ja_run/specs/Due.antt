@@ -2,6 +2,7 @@
 use Rattle.std.specs.Prelude.{◌≡◌, ◌≢◌, ℕ, ◌≤◌, ◌⊎◌, Bool, List, [], ◌∷◌, ◌++◌, length, codes, Option, Some, IfSome, IsSomeAnd, slice_get, IsPermutation, IsSorted}
 use Rattle.std.specs.Ordering.{nat_cmp}
 use Rattle.std.specs.Cmp.Lexicographic.{slice_cmp}
+use Rattle.ja_base.specs.Limit.{max_file_bytes}
 use Rattle.ja_base.specs.Cause.{Rose}
 use Rattle.ja_base.specs.declared.file.File.{File}
 use Rattle.ja_io.specs.Contents.{Contents, names_of}
@@ -21,7 +22,7 @@ IsClassFileName name = (stem : List ℕ) × (name ≡ stem ++ codes ".class")
 -- the file is a class file of the first form of at most 4 MiB, and this is its method, which keeps the file's name
 pub record IsFirstFile (file : File) (m : FirstMethod) : Type 0 where
   pub named : IsClassFileName file.name
-  pub short : length file.bytes ≤ 4194304
+  pub short : length file.bytes ≤ max_file_bytes
   pub read : FirstMethod
   pub form : IsFirstForm file.bytes read
   pub method : m ≡ record read { file = file.name }

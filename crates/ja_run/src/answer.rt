@@ -4,16 +4,19 @@ ghost use Rattle.std.specs.Option.{ForSome};
 ghost use Rattle.std.specs.Ordering.{nat_cmp};
 ghost use Rattle.std.specs.Cmp.Lexicographic.{slice_cmp};
 ghost use Rattle.ja_base.specs.Cause.{Rose};
+ghost use Rattle.ja_base.specs.Limit.{max_file_bytes};
 ghost use Rattle.ja_base.specs.declared.file.File.{File};
 ghost use Rattle.ja_io.specs.Contents.{names_of};
 ghost use Rattle.ja_run.specs.Due.{ComesTo, HasFailed, IsAnalysis, IsClassFileName, IsDue, IsVerdictStatus};
 ghost use Rattle.ja_run.specs.Report.{unbuilt_line};
+ghost use Rattle.ja_run.specs.Status.{number_of};
 ghost use Rattle.ja_run.specs.Words.{AreWrong};
 ghost use Rattle.ja_class.specs.Runnable.{IsRunnable};
 
 use crate::report::{
     report_on_method, report_status, report_without_files, unbuilt_text, usage_text,
 };
+use crate::status::Status;
 use crate::words::directory_of;
 use ja_base::{MAX_FILE_BYTES, Memory, Name};
 use ja_class::{FirstFault, FirstMethod, read_first};
@@ -24,7 +27,7 @@ use std::alloc::{AllocError, Global};
 /// A text that is due, and the status with which it is due.
 #[derive(Drop)]
 pub struct Answer {
-    pub status: u8,
+    pub status: Status,
     pub text: Vec<u8>,
 }
 
@@ -82,11 +85,11 @@ fn is_class_file(name: &Name) -> bool
 
 /// The refusal of a folder, which names a file.
 fn refusal(alloc: Global, file: &Name) -> Result<Answer, Memory>
-    ensures status { IfOk result (λ answer. answer.status ≡ 3) }
+    ensures status { IfOk result (λ answer. number_of answer.status ≡ 3) }
     ensures text { IfOk result (λ answer. answer.text.items ≡ unbuilt_line file.now) }
 {
     Ok(Answer {
-        status: 3,
+        status: Status::Refused,
         text: unbuilt_text(alloc, file)?,
     })
 }
@@ -94,8 +97,8 @@ fn refusal(alloc: Global, file: &Name) -> Result<Answer, Memory>
 /// The report on a method.
 fn analysis(alloc: Global, method: &FirstMethod) -> Result<Answer, Memory>
     requires { IsRunnable method.now }
-    ensures analysis { IfOk result (λ answer. IsAnalysis method.now answer.status answer.text.items) }
-    ensures due { IfOk result (λ answer. IsVerdictStatus answer.status) }
+    ensures analysis { IfOk result (λ answer. IsAnalysis method.now (number_of answer.status) answer.text.items) }
+    ensures due { IfOk result (λ answer. IsVerdictStatus (number_of answer.status)) }
 {
     let warned = solve_first(alloc, method)?;
     Ok(Answer {
@@ -107,8 +110,8 @@ fn analysis(alloc: Global, method: &FirstMethod) -> Result<Answer, Memory>
 /// What one class file comes to, where there is no other file.
 fn judge_class(alloc: Global, name: &Name, bytes: &[u8]) -> Result<Answer, Memory>
     requires { IsClassFileName name.now }
-    ensures judged { IfOk result (λ answer. (file : File) → file.name ≡ name.now → file.bytes ≡ bytes.now → length bytes.now ≤ 4194304 → ComesTo (file ∷ []) answer.status answer.text.items) }
-    ensures due { IfOk result (λ answer. IsVerdictStatus answer.status) }
+    ensures judged { IfOk result (λ answer. (file : File) → file.name ≡ name.now → file.bytes ≡ bytes.now → length bytes.now ≤ max_file_bytes → ComesTo (file ∷ []) (number_of answer.status) answer.text.items) }
+    ensures due { IfOk result (λ answer. IsVerdictStatus (number_of answer.status)) }
 {
     match read_first(alloc, bytes) {
         Ok(mut method) => {
@@ -124,8 +127,8 @@ fn judge_class(alloc: Global, name: &Name, bytes: &[u8]) -> Result<Answer, Memor
 /// not read.
 fn judge_file<F: Folder>(alloc: Global, folder: &mut F, name: &Name) -> Result<Answer, Failure>
     requires { ForSome (F.told folder.old) (λ held. Contains (names_of held.files) name.now) }
-    ensures judged { IfOk result (λ answer. IfSome (F.told folder.old) (λ held. (file : File) → held.files ≡ file ∷ [] → file.name ≡ name.now → ComesTo held.files answer.status answer.text.items)) }
-    ensures due { IfOk result (λ answer. IsVerdictStatus answer.status) }
+    ensures judged { IfOk result (λ answer. IfSome (F.told folder.old) (λ held. (file : File) → held.files ≡ file ∷ [] → file.name ≡ name.now → ComesTo held.files (number_of answer.status) answer.text.items)) }
+    ensures due { IfOk result (λ answer. IsVerdictStatus (number_of answer.status)) }
     ensures failed { IsErrOf result Failure.Folder → Rose (F.faults folder.old) (F.faults folder.new) }
     ensures grows { F.faults folder.old ≤ F.faults folder.new }
 {
@@ -157,14 +160,14 @@ fn names_in_order<F: Folder>(alloc: Global, folder: &mut F) -> Result<Vec<Name>,
 fn judge_names<F: Folder>(alloc: Global, folder: &mut F, names: &[Name]) -> Result<Answer, Failure>
     requires each { ForSome (F.told folder.old) (λ held. IsPermutation (names_of held.files) names.now) }
     requires ordered { IsSorted (slice_cmp nat_cmp) names.now }
-    ensures judged { IfOk result (λ answer. IfSome (F.told folder.old) (λ held. ComesTo held.files answer.status answer.text.items)) }
-    ensures due { IfOk result (λ answer. IsVerdictStatus answer.status) }
+    ensures judged { IfOk result (λ answer. IfSome (F.told folder.old) (λ held. ComesTo held.files (number_of answer.status) answer.text.items)) }
+    ensures due { IfOk result (λ answer. IsVerdictStatus (number_of answer.status)) }
     ensures failed { IsErrOf result Failure.Folder → Rose (F.faults folder.old) (F.faults folder.new) }
     ensures grows { F.faults folder.old ≤ F.faults folder.new }
 {
     match names {
         [] => Ok(Answer {
-            status: 0,
+            status: Status::Clean,
             text: report_without_files(alloc)?,
         }),
         [name] => judge_file(alloc, folder, name),
@@ -174,8 +177,8 @@ fn judge_names<F: Folder>(alloc: Global, folder: &mut F, names: &[Name]) -> Resu
 
 /// What a directory comes to.
 fn judge<F: Folder>(alloc: Global, folder: &mut F, dir: &Name) -> Result<Answer, Failure>
-    ensures judged { IfOk result (λ answer. IfSome (F.told folder.old) (λ held. (held.dir ≡ dir.now) × ComesTo held.files answer.status answer.text.items)) }
-    ensures due { IfOk result (λ answer. IsVerdictStatus answer.status) }
+    ensures judged { IfOk result (λ answer. IfSome (F.told folder.old) (λ held. (held.dir ≡ dir.now) × ComesTo held.files (number_of answer.status) answer.text.items)) }
+    ensures due { IfOk result (λ answer. IsVerdictStatus (number_of answer.status)) }
     ensures failed { IsErrOf result Failure.Folder → Rose (F.faults folder.old) (F.faults folder.new) ⊎ IsSomeAnd (F.told folder.old) (λ held. held.dir ≢ dir.now) }
 {
     folder.enter(alloc, dir)?;
@@ -190,14 +193,14 @@ pub fn answer_words<F: Folder>(
     words: &[Name],
     folder: &mut F,
 ) -> Result<Answer, Failure>
-    ensures due { IfOk result (λ answer. IsDue words.now (F.told folder.old) answer.status answer.text.items) }
+    ensures due { IfOk result (λ answer. IsDue words.now (F.told folder.old) (number_of answer.status) answer.text.items) }
     ensures failed { IsErrOf result Failure.Folder → HasFailed words.now (F.told folder.old) (F.faults folder.old) (F.faults folder.new) }
     ensures untouched { AreWrong words.now → folder.new ≡ folder.old }
 {
     match directory_of(words) {
         Some(dir) => judge(alloc, folder, dir),
         None => Ok(Answer {
-            status: 2,
+            status: Status::WrongWords,
             text: usage_text(alloc)?,
         }),
     }

@@ -4,8 +4,10 @@
 mod analyse;
 mod answer;
 mod report;
+mod status;
 mod text;
 mod words;
 mod writing;
 
 pub use analyse::run;
+pub use status::Status;

@@ -2,7 +2,9 @@
 ghost use Rattle.std.specs.Prelude.{◌≡◌, ◌<◌, ◌++◌, length, OnOk, IfOk};
 ghost use Rattle.ja_run.specs.Report.{empty_report, head, is_sink, line, report_of, sink_pcs, site_line, site_lines, status_of, total_line, unbuilt_line, usage_lines, verdict, warned_count};
 ghost use Rattle.std.specs.Fmt.{decimal};
+ghost use Rattle.ja_run.specs.Status.{number_of};
 
+use crate::status::Status;
 use crate::text::{push_name, push_number, push_text};
 use ja_base::{Memory, Name};
 use ja_class::{FirstCode, FirstMethod, FirstOp};
@@ -157,11 +159,15 @@ pub fn report_on_method(
     Ok(text)
 }
 
-/// The status of a report: 1 where some sink call is warned, else 0.
-pub fn report_status(warned: &[bool]) -> u8
-    ensures { result ≡ status_of warned.now }
+/// The status of a report: whether some sink call is warned.
+pub fn report_status(warned: &[bool]) -> Status
+    ensures { number_of result ≡ status_of warned.now }
 {
-    if count_warned(warned) == 0 { 0 } else { 1 }
+    if count_warned(warned) == 0 {
+        Status::Clean
+    } else {
+        Status::Warned
+    }
 }
 
 /// The line of the refusal that names a file which is not in the first form.

@@ -1,5 +1,5 @@
 -- What the tables of direct supertypes say of a class.
-use Rattle.std.proofs.Common.{◌≡◌, ℕ, zero, suc, ◌<◌, ◌⊎◌, inl, inr, Bool, List, [], ◌∷◌, ◌++◌, length, map, get_or, refl, sym, ap, ◌∙◌, subst, arith}
+use Rattle.std.proofs.Common.{◌≡◌, ℕ, zero, suc, ◌<◌, ◌≤◌, ◌^◌, ◌⊎◌, inl, inr, Bool, List, [], ◌∷◌, ◌++◌, length, map, get_or, refl, sym, ap, ◌∙◌, subst, arith}
 use Rattle.std.specs.Prelude.{◌↔◌, Option, Some, All, Contains, filter_map, option_to_list, slice_get}
 use Rattle.std.proofs.lemmas.List.{length-map, get_or_default}
 use Rattle.std.proofs.lemmas.List.Elements.{Contains-get_or}
@@ -35,6 +35,9 @@ supertypes-at heads c d lt =
 
 length-places : {B : Type 0} (f : ClassHead → B) (heads : List ClassHead) → length (map f heads) ≡ length heads
 length-places f heads = length-map heads f
+
+pub names-few : (heads : List ClassHead) (keys : List (List ℕ)) → keys ≡ names_of heads → length heads ≤ 2 ^ 26 → length keys ≤ 2 ^ 26
+names-few heads keys e few = omega (arith, ap (λ (names : List (List ℕ)). length names) e, length-places (λ (head : ClassHead). head.name) heads)
 
 pub length-superclasses : (heads : List ClassHead) → length (superclass_places heads) ≡ length heads
 length-superclasses heads = length-places (λ (head : ClassHead). place_of_some (names_of heads) head.superclass) heads

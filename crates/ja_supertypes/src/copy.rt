@@ -1,6 +1,6 @@
 ghost use Rattle.std.specs.Prelude.{◌≡◌, IfOk};
 
-use ja_base::{Memory, Name, Names, Seq};
+use ja_base::{Memory, Name, Seq, copy_names};
 use ja_ir::{ClassHead, HeadField, HeadFields, HeadMethod, HeadMethods};
 use std::alloc::Global;
 
@@ -44,17 +44,6 @@ fn copy_option(alloc: Global, name: &Option<Name>) -> Result<Option<Name>, Memor
             Ok(Some(copy))
         }
     }
-}
-
-/// The same names.
-pub fn copy_names(alloc: Global, names: &[Name]) -> Result<Names, Memory>
-    ensures { IfOk result (λ copy. copy ≡ names.now) }
-{
-    let mut copies = Seq::new(alloc);
-    for name in names {
-        copies.push(name.copy(alloc)?)?;
-    }
-    Ok(copies)
 }
 
 fn copy_fields(alloc: Global, fields: &[HeadField]) -> Result<HeadFields, Memory>

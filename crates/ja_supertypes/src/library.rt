@@ -4,10 +4,9 @@ ghost use Rattle.ja_supertypes.specs.LibraryTypes.{first_places, AreLibraryTypes
 ghost use Rattle.ja_supertypes.specs.Supertypes.{place_of, IsDirect};
 ghost use Rattle.ja_supertypes.specs.Types.{names_at, other_than_object, standing_for, AreNoted, AreNotedBelow, AreOwnTypes, AreTypes};
 
-use crate::copy::copy_names;
 use crate::tables::Tables;
 use indexmap::IndexSet;
-use ja_base::{Memory, Name, Names, Numbers, Seq};
+use ja_base::{Memory, Name, Names, Numbers, Seq, copy_names};
 use std::alloc::Global;
 
 /// Library types, one list for each class: those of its own interfaces, and all.

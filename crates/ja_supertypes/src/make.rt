@@ -1,8 +1,8 @@
-ghost use Rattle.std.specs.Prelude.{◌≡◌, ◌≤◌, ◌^◌, length, IfOk, IfErr};
-ghost use Rattle.ja_supertypes.specs.Faults.{IsFault};
-ghost use Rattle.ja_supertypes.specs.Index.{interface_places, supertype_places, IsIndexed, Lists, Shows, ShowsForeign};
+ghost use Rattle.std.specs.Prelude.{◌≡◌, ℕ, ◌<◌, ◌≤◌, ◌^◌, [], length, slice_index_or, IfOk, IfErr, OnOk};
+ghost use Rattle.ja_supertypes.specs.Faults.{IsCyclic, IsDuplicate, IsFault, IsNowhere, IsPlatform};
+ghost use Rattle.ja_supertypes.specs.Index.{interface_places, superclass_places, supertype_places, AreTops, IsIndexed, Lists, Shows, ShowsForeign};
 ghost use Rattle.ja_supertypes.specs.Rows.{ShowsAll};
-ghost use Rattle.ja_supertypes.specs.Supertypes.{names_of, IsSupertype, IsSuperinterface};
+ghost use Rattle.ja_supertypes.specs.Supertypes.{names_of, IsDirect, IsSuperclass, IsSuperinterface, IsSupertype};
 
 use crate::ClassFault;
 use crate::closure::close;
@@ -20,6 +20,24 @@ use ja_ir::ClassHead;
 use ja_sets::TokenSet;
 use std::alloc::Global;
 
+/// The direct supertypes of each class, and all its proper ones.
+#[derive(Drop)]
+struct Ways {
+    superclasses: Seq<Option<u32>>,
+    direct: Seq<Numbers>,
+    above: Vec<TokenSet>,
+}
+
+/// What is told apart of what lies above each class.
+#[derive(Drop)]
+struct Above {
+    supertypes: Seq<Numbers>,
+    superclasses: Vec<TokenSet>,
+    superinterfaces: Vec<TokenSet>,
+    foreign: Flags,
+    tops: Numbers,
+}
+
 /// The tables of the classes with these heads.
 pub fn tables_of(alloc: Global, heads: &[ClassHead]) -> Result<Tables, ClassFault>
     requires { length heads.now ≤ 2 ^ 26 }
@@ -27,30 +45,105 @@ pub fn tables_of(alloc: Global, heads: &[ClassHead]) -> Result<Tables, ClassFaul
     ensures indexed { IfOk result IsIndexed }
     ensures fault { IfErr result (IsFault heads.now) }
 {
-    check_platform(heads)?;
-    let names = number_names(alloc, heads)?;
-    let superclasses = superclass_places(alloc, heads, &names)?;
-    let direct = supertype_places(alloc, heads, &names)?;
-    let above = all_supertypes(alloc, heads, direct.as_slice())?;
-    check_cycles(heads, above.as_slice())?;
-    let supertypes = members(alloc, above.as_slice(), heads.len() as u32)?;
-    let above_superclasses = superclass_sets(alloc, heads, superclasses.as_slice())?;
-    let superinterfaces = all_superinterfaces(alloc, heads, &names, supertypes.as_slice())?;
-    let foreign = all_foreign(alloc, heads, &names, supertypes.as_slice())?;
-    let tops = tops(alloc, heads, superclasses.as_slice())?;
+    let names = distinct_names(alloc, heads)?;
     let copies = copy_heads(alloc, heads)?;
+    let ways = ways_of(alloc, heads, &names)?;
+    let above = above_of(alloc, heads, &names, &ways)?;
     Ok(Tables {
         heads: copies,
         names,
+        superclasses: ways.superclasses,
+        direct: ways.direct,
+        above: Seq::from_vec(ways.above),
+        supertypes: above.supertypes,
+        above_superclasses: Seq::from_vec(above.superclasses),
+        superinterfaces: Seq::from_vec(above.superinterfaces),
+        foreign: above.foreign,
+        tops: above.tops,
+    })
+}
+
+/// The names of the classes, where these are distinct and outside the platform.
+fn distinct_names(alloc: Global, heads: &[ClassHead]) -> Result<IndexSet<Name>, ClassFault>
+    requires { length heads.now ≤ 2 ^ 26 }
+    ensures names { IfOk result (λ names. names.keys ≡ names_of heads.now) }
+    ensures platform { OnOk result (IsNowhere (IsPlatform heads.now)) }
+    ensures distinct { OnOk result (IsNowhere (IsDuplicate heads.now)) }
+    ensures fault { IfErr result (IsFault heads.now) }
+{
+    check_platform(heads)?;
+    number_names(alloc, heads)
+}
+
+/// The supertypes of the classes with these names, which are well-founded.
+fn ways_of(alloc: Global, heads: &[ClassHead], names: &IndexSet<Name>) -> Result<Ways, ClassFault>
+    requires few { length heads.now ≤ 2 ^ 26 }
+    requires names { names.now.keys ≡ names_of heads.now }
+    requires platform { IsNowhere (IsPlatform heads.now) }
+    requires distinct { IsNowhere (IsDuplicate heads.now) }
+    ensures superclasses { IfOk result (λ ways. ways.superclasses ≡ superclass_places heads.now) }
+    ensures direct { IfOk result (λ ways. ways.direct ≡ supertype_places heads.now) }
+    ensures above { IfOk result (λ ways. ShowsAll heads.now ways.above.items) }
+    ensures acyclic { OnOk result (IsNowhere (IsCyclic heads.now)) }
+    ensures fault { IfErr result (IsFault heads.now) }
+{
+    let superclasses = superclass_places(alloc, heads, names)?;
+    let direct = supertype_places(alloc, heads, names)?;
+    let above = all_supertypes(alloc, heads, direct.as_slice())?;
+    check_cycles(heads, above.as_slice())?;
+    Ok(Ways {
         superclasses,
         direct,
-        above: Seq::from_vec(above),
+        above,
+    })
+}
+
+/// What lies above each class, by its direct and its proper supertypes.
+fn above_of(
+    alloc: Global,
+    heads: &[ClassHead],
+    names: &IndexSet<Name>,
+    ways: &Ways,
+) -> Result<Above, Memory>
+    requires few { length heads.now ≤ 2 ^ 26 }
+    requires names { names.now.keys ≡ names_of heads.now }
+    requires superclasses { ways.now.superclasses ≡ superclass_places heads.now }
+    requires above { ShowsAll heads.now ways.now.above.items }
+    requires acyclic { IsNowhere (IsCyclic heads.now) }
+    ensures supertypes { IfOk result (λ above. Lists heads.now (IsSupertype heads.now) above.supertypes) }
+    ensures falling { IfOk result (λ above. (c d : ℕ) → IsDirect heads.now c d → length (slice_index_or above.supertypes d []) < length (slice_index_or above.supertypes c [])) }
+    ensures superclasses { IfOk result (λ above. Shows heads.now (IsSuperclass heads.now) above.superclasses.items) }
+    ensures superinterfaces { IfOk result (λ above. Shows heads.now (IsSuperinterface heads.now) above.superinterfaces.items) }
+    ensures foreign { IfOk result (λ above. ShowsForeign heads.now above.foreign) }
+    ensures tops { IfOk result (λ above. AreTops heads.now above.tops) }
+{
+    let supertypes = listed_supertypes(alloc, heads, ways.above.as_slice())?;
+    let superclasses = superclass_sets(alloc, heads, ways.superclasses.as_slice())?;
+    let superinterfaces = all_superinterfaces(alloc, heads, names, supertypes.as_slice())?;
+    let foreign = all_foreign(alloc, heads, names, supertypes.as_slice())?;
+    let tops = tops(alloc, heads, ways.superclasses.as_slice())?;
+    Ok(Above {
         supertypes,
-        above_superclasses: Seq::from_vec(above_superclasses),
-        superinterfaces: Seq::from_vec(superinterfaces),
+        superclasses,
+        superinterfaces,
         foreign,
         tops,
     })
+}
+
+/// The proper supertypes of each class as lists, of which that of a direct supertype is shorter.
+fn listed_supertypes(
+    alloc: Global,
+    heads: &[ClassHead],
+    above: &[TokenSet],
+) -> Result<Seq<Numbers>, Memory>
+    requires few { length heads.now ≤ 2 ^ 26 }
+    requires above { ShowsAll heads.now above.now }
+    requires acyclic { IsNowhere (IsCyclic heads.now) }
+    ensures lists { IfOk result (Lists heads.now (IsSupertype heads.now)) }
+    ensures falling { IfOk result (λ lists. (c d : ℕ) → IsDirect heads.now c d → length (slice_index_or lists d []) < length (slice_index_or lists c [])) }
+{
+    members(alloc, above, heads.len() as u32)
 }
 
 /// The proper supertypes of each class.

@@ -12,7 +12,7 @@ use Rattle.ja_ir.specs.declared.op.Op.TheVariants.{ArrStore, PutField, Call}
 use Rattle.ja_ir.specs.Operations.{arguments, count_of, has_receiver, pops}
 use Rattle.ja_facts.specs.Slots.{Slot, OnStack as InStack, Copies, argument}
 use Rattle.ja_facts.specs.ClassSets.{IsSource}
-use Rattle.ja_facts.specs.Sharing.{At, Writes, writes_field, writes_element}
+use Rattle.ja_facts.specs.Sharing.{OfSlot, Writes, writes_field, writes_element}
 use Rattle.ja_facts.specs.Reaching.{ReachAt}
 use Rattle.ja_facts.specs.Analyses.{Analyses}
 use Rattle.ja_facts.specs.Formulas.{Assignment, Implies, any_stacked, flow_by, put_in, MeetsSource, Turns, copied, written, absorbed}
@@ -116,7 +116,7 @@ module _ (A : Analyses) (m i : ℕ) (tests : Tests) (told : AreTests A m i tests
         same : (o : Op) → Copies o height y y → fits (moved (spot_of y)) b t ≡ true → Turns A m i b o height y t
         same o c g = subst (Turns A m i b o height y) (sym (fits_moved b (spot_of y) t g ∙ value_spot b y)) (copied c)
 
-        write : (o : Op) (x v : ℕ) → Writes o height (InStack x) (InStack v) → (height - 1) ≡ v → Copies o height y y → (reaches : Bool) → (reaches ≡ true → A.reach (ReachAt m i (At y) (InStack x)))
+        write : (o : Op) (x v : ℕ) → Writes o height (InStack x) (InStack v) → (height - 1) ≡ v → Copies o height y y → (reaches : Bool) → (reaches ≡ true → A.reach (ReachAt m i (OfSlot y) (InStack x)))
             → fits (if reaches then (record { exact = false; always = false; one = Some (spot_of y); first = height - 1; count = 1 }) else moved (spot_of y)) b t ≡ true → Turns A m i b o height y t
         write o x v w at c true is g = written w c (is refl)
             (λ e. sym (write_bound b y v) ∙ ap (λ j. value b (spot_of y) || any_stacked b j 1) (sym at) ∙ fits_implied (value b (spot_of y) || any_stacked b (height - 1) 1) t g e)

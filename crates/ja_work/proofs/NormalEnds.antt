@@ -10,7 +10,7 @@ use Rattle.ja_ir.specs.declared.op.Op.{Op}
 use Rattle.ja_ir.specs.declared.op.Op.TheVariants.{Const, Text, New, Load, Store, ArrLoad, ArrStore, Shuffle, Mix, GetStatic, GetField, PutField, Call, NewArray, ArrLen, Cast, InstanceOf}
 use Rattle.ja_ir.specs.Operations.{arguments, pops, pushes, height_after, FindsOperands, result_count}
 use Rattle.ja_facts.specs.Slots.{Slot, Local as InLocal, OnStack as InStack, Copies, KeepsLocal, kept_local, kept_stack, loaded, stored, shuffled, checked}
-use Rattle.ja_facts.specs.Sharing.{At, Writes, writes_field, writes_element, Makes, makes_text, makes_object, makes_array}
+use Rattle.ja_facts.specs.Sharing.{OfSlot, Writes, writes_field, writes_element, Makes, makes_text, makes_object, makes_array}
 use Rattle.ja_facts.specs.Analyses.{Analyses}
 use Rattle.ja_facts.specs.Reaching.{ReachAt}
 use Rattle.ja_facts.specs.Formulas as formula
@@ -91,12 +91,12 @@ module _ (A : Analyses) (m i : ℕ) (tests : Tests) (told : AreTests A m i tests
       local_is _ h x none = absurd none
   left_is op height (InStack k) t changing c f = left_fits op height k t (stays op height k (InStack k) (InStack k) changing refl c) f
 
-  write_fits : (op : Op) (height : ℕ) (x v y : Slot) (t : Bool) → Writes op height x v → Copies op height y y → A.reach (ReachAt m i (At y) x) → Implies t (b.slot y || b.slot v)
+  write_fits : (op : Op) (height : ℕ) (x v y : Slot) (t : Bool) → Writes op height x v → Copies op height y y → A.reach (ReachAt m i (OfSlot y) x) → Implies t (b.slot y || b.slot v)
       → fits (normal_clauses tests op height (spot_of y)) b t ≡ true
   write_fits op height x v y t (writes_field {f = f} {k = k} h) c reach implied =
-      left_is (PutField (record { 0 = f })) height y t tt c (written_fits A m i tests told b height y t (height - 2) (suc k) (omega arith) ((told.reaches y (InStack (height - 2))).1 (subst (λ n. A.reach (ReachAt m i (At y) (InStack n))) (omega arith) reach)) implied)
+      left_is (PutField (record { 0 = f })) height y t tt c (written_fits A m i tests told b height y t (height - 2) (suc k) (omega arith) ((told.reaches y (InStack (height - 2))).1 (subst (λ n. A.reach (ReachAt m i (OfSlot y) (InStack n))) (omega arith) reach)) implied)
   write_fits op height x v y t (writes_element {kind = kind} {k = k} h) c reach implied =
-      left_is (ArrStore kind) height y t tt c (written_fits A m i tests told b height y t (height - 3) (suc (suc k)) (omega arith) ((told.reaches y (InStack (height - 3))).1 (subst (λ n. A.reach (ReachAt m i (At y) (InStack n))) (omega arith) reach)) implied)
+      left_is (ArrStore kind) height y t tt c (written_fits A m i tests told b height y t (height - 3) (suc (suc k)) (omega arith) ((told.reaches y (InStack (height - 3))).1 (subst (λ n. A.reach (ReachAt m i (OfSlot y) (InStack n))) (omega arith) reach)) implied)
 
   make_fits : (op : Op) (height : ℕ) (r : Slot) → FindsOperands op height → Makes op height r → fits (normal_clauses tests op height (spot_of r)) b false ≡ true
   make_fits op height r finds makes_text = pushed_fits Text height height false (omega arith) (omega arith) (constant_fits false b false refl)

@@ -11,7 +11,7 @@ use Rattle.ja_ir.specs.Params.{param_count}
 use Rattle.ja_facts.specs.declared.facts.Facts.{Facts}
 use Rattle.ja_facts.specs.Slots.{Slot, Local as InLocal, OnStack as InStack, argument}
 use Rattle.ja_facts.specs.ClassSets.{CallsAbstract, CallsLibrary}
-use Rattle.ja_facts.specs.Sharing.{At, Statics, Root, Arg, Fields, IsRootOf, root_name}
+use Rattle.ja_facts.specs.Sharing.{OfSlot, Statics, Root, Arg, StaticFields, IsRootOf, root_name}
 use Rattle.ja_facts.specs.FactTables.{targets_at, slot_count, has_effect}
 use Rattle.ja_facts.specs.Told.{IsNumbered, numbered_local, numbered_stack, IsNamed, named_slot, named_statics, PairHas, IsEffectNumber, effect_on_argument, effect_on_statics, EffectHas, GoesToAbstract}
 use Rattle.ja_facts.specs.Formulas.{any_below, IsAffected}
@@ -37,7 +37,7 @@ is_numbered method (InStack k) n e = by_test (nat_lt k method.stack) refl e
     by_test false t s = absurd (cc s)
 
 -- the name of a slot has the slot's number
-name_number : (method : Method) (z : Slot) (n : ℕ) → IsNamed method (At z) n → number_of method z ≡ Some n
+name_number : (method : Method) (z : Slot) (n : ℕ) → IsNamed method (OfSlot z) n → number_of method z ≡ Some n
 name_number method z n (named_slot is) = numbered_is method z n is
 
 statics_number : (method : Method) (n : ℕ) → IsNamed method Statics n → n ≡ slot_count method
@@ -53,30 +53,30 @@ pair_to : (set : List (List Bool)) (a b : Option ℕ) (x y : ℕ) → a ≡ Some
 pair_to set a b x y e d is = ap (λ o. has_numbers set o b) e ∙ ap (λ o. has_numbers set (Some x) o) d ∙ is
 
 module _ (p : Parts) (sets : List (List (List (List Bool)))) (m i : ℕ) where
-  slots_told : (y x : Slot) → has_slots (slice_get p.methods m) (set_at sets m i) y x ≡ true → PairHas p sets m i (At y) (At x)
+  slots_told : (y x : Slot) → has_slots (slice_get p.methods m) (set_at sets m i) y x ≡ true → PairHas p sets m i (OfSlot y) (OfSlot x)
   slots_told y x e = by_method (slice_get p.methods m) refl e
     where
-      by_method : (o : Option Method) → slice_get p.methods m ≡ o → has_slots o (set_at sets m i) y x ≡ true → PairHas p sets m i (At y) (At x)
+      by_method : (o : Option Method) → slice_get p.methods m ≡ o → has_slots o (set_at sets m i) y x ≡ true → PairHas p sets m i (OfSlot y) (OfSlot x)
       by_method None is h = absurd (false≢true h)
       by_method (Some method) is h =
           let r = pair_from (set_at sets m i) (number_of method y) (number_of method x) h in
           record { method = method; found = is; first = r.0; second = r.1; is_first = named_slot (is_numbered method y r.0 r.2); is_second = named_slot (is_numbered method x r.1 r.3); member = r.4 }
 
-  told_slots : (y x : Slot) → PairHas p sets m i (At y) (At x) → has_slots (slice_get p.methods m) (set_at sets m i) y x ≡ true
+  told_slots : (y x : Slot) → PairHas p sets m i (OfSlot y) (OfSlot x) → has_slots (slice_get p.methods m) (set_at sets m i) y x ≡ true
   told_slots y x h = ap (λ o. has_slots o (set_at sets m i) y x) h.found
       ∙ pair_to (set_at sets m i) (number_of h.method y) (number_of h.method x) h.first h.second (name_number h.method y h.first h.is_first) (name_number h.method x h.second h.is_second) h.member
 
-  statics_told : (y : Slot) → has_statics (slice_get p.methods m) (set_at sets m i) y ≡ true → PairHas p sets m i (At y) Statics
+  statics_told : (y : Slot) → has_statics (slice_get p.methods m) (set_at sets m i) y ≡ true → PairHas p sets m i (OfSlot y) Statics
   statics_told y e = by_method (slice_get p.methods m) refl e
     where
-      by_method : (o : Option Method) → slice_get p.methods m ≡ o → has_statics o (set_at sets m i) y ≡ true → PairHas p sets m i (At y) Statics
+      by_method : (o : Option Method) → slice_get p.methods m ≡ o → has_statics o (set_at sets m i) y ≡ true → PairHas p sets m i (OfSlot y) Statics
       by_method None is h = absurd (false≢true h)
       by_method (Some method) is h =
           let r = pair_from (set_at sets m i) (number_of method y) (Some (slot_count method)) h in
           let same : slot_count method ≡ r.1 = (let e' = r.3 in cc e') in
           record { method = method; found = is; first = r.0; second = r.1; is_first = named_slot (is_numbered method y r.0 r.2); is_second = named_statics (sym same); member = r.4 }
 
-  told_statics : (y : Slot) → PairHas p sets m i (At y) Statics → has_statics (slice_get p.methods m) (set_at sets m i) y ≡ true
+  told_statics : (y : Slot) → PairHas p sets m i (OfSlot y) Statics → has_statics (slice_get p.methods m) (set_at sets m i) y ≡ true
   told_statics y h = ap (λ o. has_statics o (set_at sets m i) y) h.found
       ∙ pair_to (set_at sets m i) (number_of h.method y) (Some (slot_count h.method)) h.first h.second (name_number h.method y h.first h.is_first) (ap Some (sym (statics_number h.method h.second h.is_second))) h.member
 
@@ -137,17 +137,17 @@ module _ (p : Parts) (f : Facts) (m i : ℕ) where
       by_number : (j : ℕ) → IsEffectNumber h.method (Arg k) j → has_effect f.effects n j ≡ true → changes_param (Some h.method) f.effects n k ≡ true
       by_number j (effect_on_argument lt) is = and_from (nat_lt k (param_count h.method)) (has_effect f.effects n k) (lt-ltb k (param_count h.method) lt) is
 
-  fields_told : (n : ℕ) → changes_statics (slice_get p.methods n) f.effects n ≡ true → EffectHas p f.effects n Fields
+  fields_told : (n : ℕ) → changes_statics (slice_get p.methods n) f.effects n ≡ true → EffectHas p f.effects n StaticFields
   fields_told n e = by_method (slice_get p.methods n) refl e
     where
-      by_method : (o : Option Method) → slice_get p.methods n ≡ o → changes_statics o f.effects n ≡ true → EffectHas p f.effects n Fields
+      by_method : (o : Option Method) → slice_get p.methods n ≡ o → changes_statics o f.effects n ≡ true → EffectHas p f.effects n StaticFields
       by_method None is h = absurd (false≢true h)
       by_method (Some method) is h = record { method = method; found = is; k = param_count method; is = effect_on_statics refl; member = h }
 
-  told_fields : (n : ℕ) → EffectHas p f.effects n Fields → changes_statics (slice_get p.methods n) f.effects n ≡ true
+  told_fields : (n : ℕ) → EffectHas p f.effects n StaticFields → changes_statics (slice_get p.methods n) f.effects n ≡ true
   told_fields n h = ap (λ o. changes_statics o f.effects n) h.found ∙ by_number h.k h.is h.member
     where
-      by_number : (j : ℕ) → IsEffectNumber h.method Fields j → has_effect f.effects n j ≡ true → changes_statics (Some h.method) f.effects n ≡ true
+      by_number : (j : ℕ) → IsEffectNumber h.method StaticFields j → has_effect f.effects n j ≡ true → changes_statics (Some h.method) f.effects n ≡ true
       by_number j (effect_on_statics e) is = ap (λ x. has_effect f.effects n x) (sym e) ∙ is
 
   pub affected_told : (n count under : ℕ) → AreAffected (told p f) m i n count under (affected_of p f m i n count under)
@@ -167,14 +167,14 @@ module _ (p : Parts) (f : Facts) (m i : ℕ) where
           record { root = Arg r.0; is_root = r.1; effect = param_told n r.0 parts.0; pair = slots_told p f.pairs m i y (argument under r.0) parts.1 })
           (λ fields.
           let parts = and_parts (changes_statics (slice_get p.methods n) f.effects n) (has_statics (slice_get p.methods m) (set_at f.pairs m i) y) fields in
-          record { root = Fields; is_root = tt; effect = fields_told n parts.0; pair = statics_told p f.pairs m i y parts.1 })
+          record { root = StaticFields; is_root = tt; effect = fields_told n parts.0; pair = statics_told p f.pairs m i y parts.1 })
           (or_cases (any_below test count) statics e)
 
       backward : IsAffected (told p f) m i n count under y → affected_of p f m i n count under y ≡ true
       backward h = by_root h.root h.is_root h.effect h.pair
         where
-          by_root : (r : Root) → IsRootOf count r → EffectHas p f.effects n r → PairHas p f.pairs m i (At y) (root_name under r) → affected_of p f m i n count under y ≡ true
+          by_root : (r : Root) → IsRootOf count r → EffectHas p f.effects n r → PairHas p f.pairs m i (OfSlot y) (root_name under r) → affected_of p f m i n count under y ≡ true
           by_root (Arg k) lt effect pair = or_left (any_below test count) statics
               (some_any test count k lt (and_from (changes_param (slice_get p.methods n) f.effects n k) ((tests_of p f m i).shares y (argument under k)) (told_param n k effect) (told_slots p f.pairs m i y (argument under k) pair)))
-          by_root Fields _ effect pair = or_right (any_below test count) statics
+          by_root StaticFields _ effect pair = or_right (any_below test count) statics
               (and_from (changes_statics (slice_get p.methods n) f.effects n) (has_statics (slice_get p.methods m) (set_at f.pairs m i) y) (told_fields n effect) (told_statics p f.pairs m i y pair))

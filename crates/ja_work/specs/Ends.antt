@@ -15,7 +15,7 @@ use Rattle.ja_ir.specs.declared.op.Op.TheVariants.{Load, Store, ArrLoad, ArrStor
 use Rattle.ja_ir.specs.Operations.{arguments, has_receiver, may_throw, pops, height_after}
 use Rattle.ja_facts.specs.Slots.{Slot, Local as InLocal, OnStack as InStack, argument}
 use Rattle.ja_facts.specs.ClassSets.{CallsAbstract, CallsLibrary}
-use Rattle.ja_facts.specs.Sharing.{PairAt, At}
+use Rattle.ja_facts.specs.Sharing.{PairAt, OfSlot}
 use Rattle.ja_facts.specs.Reaching.{ReachAt}
 use Rattle.ja_facts.specs.Analyses.{Analyses}
 use Rattle.ja_facts.specs.Formulas.{Assignment, Summary, any_below, IsAffected}
@@ -36,8 +36,8 @@ pub record Tests : Type 0 where
 
 -- the tests say of instruction i of method m what the analyses say
 pub record AreTests (A : Analyses) (m i : ℕ) (tests : Tests) : Type 0 where
-  pub reaches : (y x : Slot) → (tests.reaches y x ≡ true) ↔ A.reach (ReachAt m i (At y) x)
-  pub shares : (y x : Slot) → (tests.shares y x ≡ true) ↔ A.heaps (PairAt m i (At y) (At x))
+  pub reaches : (y x : Slot) → (tests.reaches y x ≡ true) ↔ A.reach (ReachAt m i (OfSlot y) x)
+  pub shares : (y x : Slot) → (tests.shares y x ≡ true) ↔ A.heaps (PairAt m i (OfSlot y) (OfSlot x))
   pub abstract : (tests.abstract ≡ true) ↔ ((n : ℕ) × A.classes (CallsAbstract m i n))
   pub library : (tests.library ≡ true) ↔ A.classes (CallsLibrary m i)
 

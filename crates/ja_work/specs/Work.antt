@@ -95,7 +95,7 @@ module _ (p : Parts) (A : Analyses) where
         → IsRule m i (return_clauses affected under (has_result call.result) s)
     throws : {n under : ℕ} {call : CallOp} (affected : Slot → Bool) (s : Summary) → CallAt p m i call under → A.classes (CallsMethod m i n) → AreAffected A m i n (arguments call) under affected
         → IsRule m i (throw_clauses affected s)
-    initialises : {n height : ℕ} {op : Op} (affected : Slot → Bool) (s : Summary) → OpAt p m i op height → InitAt p m i n → AreAffected A m i n 0 height affected → IsRule m i (return_clauses affected height false s)
+    initializes : {n height : ℕ} {op : Op} (affected : Slot → Bool) (s : Summary) → OpAt p m i op height → InitAt p m i n → AreAffected A m i n 0 height affected → IsRule m i (return_clauses affected height false s)
     caught : IsRule m i caught_clauses
     returns_value : {k : ℕ} {kind : Kind} → OpAt p m i (Return (Some kind)) (suc k) → IsRule m i (end_clauses (Some k))
     returns_nothing : {height : ℕ} → OpAt p m i (Return None) height → IsRule m i (end_clauses None)
@@ -109,7 +109,7 @@ module _ (p : Parts) (A : Analyses) where
         → IsReturn A m i n (arguments call) under (has_result call.result) b s c → IsAfter m i a c
     after_throw : {n under : ℕ} {call : CallOp} (b c d : Assignment) (s : Summary) → Facts (At m i a b) → Calls p A m i n call under b d → Facts (Threw n d s)
         → IsCallThrown A m i n (arguments call) under b s c → IsAfter m i a c
-    after_initialiser : {n height : ℕ} {op : Op} (b c d : Assignment) (s : Summary) → Facts (At m i a b) → OpAt p m i op height → InitAt p m i n → IsNothing d → Facts (Normal n d s)
+    after_initializer : {n height : ℕ} {op : Op} (b c d : Assignment) (s : Summary) → Facts (At m i a b) → OpAt p m i op height → InitAt p m i n → IsNothing d → Facts (Normal n d s)
         → IsReturn A m i n 0 height false b s c → IsAfter m i a c
     after_caught : (b c : Assignment) → IsAfter m i a b → IsCaught b c → IsAfter m i a c
 

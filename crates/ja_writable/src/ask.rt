@@ -7,7 +7,8 @@ ghost use Rattle.ja_assembly.specs.Wanted.{with_one, same_key, class_keys, membe
 ghost use Rattle.ja_writable.specs.Judging.{Asks};
 
 use indexmap::IndexSet;
-use ja_assembly::{FIELD, Key, METHOD, constructor_of, method_tag};
+use ja_assembly::{Key, constructor_of, method_tag};
+use ja_base::tag::{FIELD, METHOD};
 use ja_base::{Memory, Name};
 use ja_code::Opcode;
 use ja_listing::{Frame, Head, Item, MemberName, Operand};

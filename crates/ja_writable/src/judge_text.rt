@@ -8,6 +8,7 @@ ghost use Rattle.ja_writable.specs.Judging.{Judges};
 
 use crate::flaw::Flaw;
 use ja_base::Name;
+use ja_base::access_flags::STATIC;
 use ja_bytes::{DescFault, field_desc, method_desc, modified_utf8};
 use ja_code::Form;
 use ja_listing::{MemberName, Number};
@@ -15,9 +16,6 @@ use std::alloc::Global;
 
 /// The most bytes of a text in a pool (JVM specification 4.4.7).
 const MAX_TEXT: usize = 65535;
-
-/// The flag of a static method (JVM specification table 4.6-A).
-const STATIC: u32 = 0x0008;
 
 /// Passes where a test does.
 pub(crate) fn demand(test: bool) -> Result<(), Flaw>
@@ -44,7 +42,7 @@ pub(crate) fn is_array(name: &[u8]) -> bool
 fn is_crowded(flags: Number, words: u32) -> bool
     ensures { Decides result (IsCrowded flags words) }
 {
-    flags.size & STATIC == 0 && words > 254
+    flags.size & u32::from(STATIC) == 0 && words > 254
 }
 
 /// Whether a number fits a field of one byte.

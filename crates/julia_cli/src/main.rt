@@ -3,7 +3,7 @@
 
 use ja_base::{Memory, Name};
 use ja_io::{DirFolder, NoGate, StdOut};
-use ja_run::run;
+use ja_run::{Status, run};
 use std::alloc::Global;
 use std::env::{self, Env};
 use std::process::ExitCode;
@@ -22,16 +22,17 @@ fn words_given<R: Env + AllocGlobal>(rt: &R) -> Result<Vec<Name>, Memory> {
 
 fn main(rt: HostRuntime) -> ExitCode {
     let Ok(words) = words_given(&rt) else {
-        return ExitCode::from(7);
+        return ExitCode::from(Status::NoMemory.number());
     };
     let mut folder = DirFolder::new(rt);
     let mut out = StdOut::new(rt.stdout());
-    ExitCode::from(run(
+    let status = run(
         &rt,
         rt.alloc(),
         words.as_slice(),
         &mut folder,
         &mut out,
         &NoGate,
-    ))
+    );
+    ExitCode::from(status.number())
 }

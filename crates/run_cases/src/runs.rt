@@ -24,7 +24,7 @@ pub fn add_run<R: Threads + Sync>(
     let mut folder = MemFolder::new(Name::of(alloc, b"d")?, files, fails);
     let mut sink = sink_of(alloc, lines)?;
     let status = run(rt, alloc, words.as_slice(), &mut folder, &mut sink, &NoGate);
-    writeln!(out, "status {status}")?;
+    writeln!(out, "status {}", status.number())?;
     Ok(out.push_str(str::from_utf8(sink.written()).unwrap_or("?"))?)
 }
 

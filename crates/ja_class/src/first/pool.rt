@@ -6,18 +6,8 @@ ghost use Rattle.ja_class.specs.Views.{entry_view, entries};
 
 use super::bytes::{short_text, u16_at, u16_pair};
 use super::{Constant, FirstFault};
+use ja_base::tag::{CLASS, METHOD, NAME_AND_TYPE, STRING, UTF8};
 use std::alloc::Global;
-
-// The tags of the JVM specification, table 4.4-A.
-const UTF8: u8 = 1;
-
-const CLASS: u8 = 7;
-
-const STRING: u8 = 8;
-
-const METHODREF: u8 = 10;
-
-const NAME_AND_TYPE: u8 = 12;
 
 /// The entry behind its tag, and the bytes after it.
 #[tactic(auto, unfolding(crate::specs::Reading::tagged_at))]
@@ -37,7 +27,7 @@ fn tagged(tag: u8, bytes: &[u8]) -> Result<(Constant<'_>, &[u8]), FirstFault>
             let (text, rest) = u16_at(bytes)?;
             Ok((Constant::String(text), rest))
         }
-        METHODREF => {
+        METHOD => {
             let (class, name_and_type, rest) = u16_pair(bytes)?;
             Ok((Constant::Methodref(class, name_and_type), rest))
         }

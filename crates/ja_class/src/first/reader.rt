@@ -13,13 +13,8 @@ use super::layout::{ClassFile, CodeAttribute, file_of};
 use super::names::{allows_all, class_name, is_text, text_of};
 use super::{FirstCode, FirstFault, FirstMethod};
 use ja_base::Name;
+use ja_base::access_flags::{ABSTRACT, INTERFACE};
 use std::alloc::Global;
-
-/// The flag of an interface (JVM specification, table 4.1-B).
-const INTERFACE: u16 = 0x0200;
-
-/// The flag of an abstract class (JVM specification, table 4.1-B).
-const ABSTRACT: u16 = 0x0400;
 
 /// Whether the version, the flags and the code's length are those of the first form.
 #[tactic(auto, unfolding(crate::specs::Reading::has_numbers))]

@@ -10,13 +10,13 @@ returns-in_err-index c =
     let p = err_from_is_err_and c.from_residual.result c.from_residual.ensures.1 in
     rw (p.1, p.2) (name_cut c.args.pool.now (onward c.args.base c.args.c.now) c.in_err-index.field-0.0 c.in_err-index.ensures)
 
-pub returns-then-tag-ne1 : goal.returns-then-tag-ne1
-returns-then-tag-ne1 c =
+pub returns-then-tag-ne-UTF8 : goal.returns-then-tag-ne-UTF8
+returns-then-tag-ne-UTF8 c =
     rw c.place.ensures
     (name_wrong c.args.pool.now (onward c.args.base c.args.c.now) (onward c.args.base c.two_bytes.new.c) c.in_ok-index.index c.in_ok-index.ensures
-    (λ e. c.if-tag-ne1.true (c.tag.ensures ∙ ap (tag_at c.args.pool.now) c.from.ensures ∙ e)))
+    (λ e. c.if-tag-ne-UTF8.true (c.tag.ensures ∙ ap (tag_at c.args.pool.now) c.from.ensures ∙ e)))
 
 pub returns : goal.returns
 returns c =
     name_read c.args.pool.now (onward c.args.base c.args.c.now) (onward c.args.base c.two_bytes.new.c) c.in_ok-index.index c.in_ok-index.ensures
-    (ap (tag_at c.args.pool.now) (sym c.from.ensures) ∙ sym c.tag.ensures ∙ c.if-tag-ne1.false)
+    (ap (tag_at c.args.pool.now) (sym c.from.ensures) ∙ sym c.tag.ensures ∙ c.if-tag-ne-UTF8.false)

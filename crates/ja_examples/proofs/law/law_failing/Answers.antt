@@ -1,4 +1,4 @@
-use Rattle.ja_examples.proofs.Initialised.{init_threw}
+use Rattle.ja_examples.proofs.Initialized.{init_threw}
 use Rattle.ja_examples.proofs.Failed.{never_returns, not_warned}
 use Rattle.ja_examples.proofs.law.law_failing.Goals as goal
 

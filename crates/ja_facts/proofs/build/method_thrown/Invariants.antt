@@ -1,7 +1,6 @@
-use Rattle.std.proofs.Common.{◌≡◌, map, replicate, take}
-use Rattle.ja_ir.specs.declared.method.Instr.{Instr}
-use Rattle.ja_facts.specs.ClassTables.{no_members, throws_before}
+use Rattle.std.proofs.Common.{◌≡◌, map, take}
+use Rattle.ja_facts.specs.ClassTables.{throws_before}
 use Rattle.ja_facts.proofs.build.method_thrown.Given as goal
 
 abbrev pub invariant-loop-instr : goal.invariant-loop-instr
-invariant-loop-instr l = l.rows ≡ map (λ (instr : Instr). replicate (throws_before instr) (no_members l.n)) (take l.instr-index l.method.code)
+invariant-loop-instr l = l.row ≡ map throws_before (take l.instr-index l.method.code)

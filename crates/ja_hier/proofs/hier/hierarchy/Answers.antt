@@ -1,11 +1,14 @@
-use Rattle.std.proofs.Common.{subst}
-use Rattle.ja_hier.specs.Faults.{IsHierarchy}
+use Rattle.std.proofs.Common.{List, subst}
+use Rattle.std.specs.Prelude.{◌≡◌, IfErr, IfOk, OnOk}
+use Rattle.ja_ir.specs.declared.head.ClassHead.{ClassHead}
+use Rattle.ja_hier.specs.Faults.{IsFault, IsHierarchy}
 use Rattle.ja_hier.proofs.hier.hierarchy.Goals as goal
 
-pub returns-clause-valid : goal.returns-clause-valid
-returns-clause-valid c = subst IsHierarchy c.in_ok-tables.ensures.heads (record {
-  platform = c.in_ok-tables.ensures.indexed.valid.platform;
-  distinct = c.in_ok-tables.ensures.indexed.valid.distinct;
-  acyclic = c.in_ok-tables.ensures.indexed.valid.acyclic;
-  packages = c.in_ok-check_packages.ensures.ok;
-})
+pub returns-in-Ok-clause-heads : goal.returns-in-Ok-clause-heads
+returns-in-Ok-clause-heads c = subst (λ (heads : List ClassHead). IfOk c.checked.result (λ hier. hier ≡ heads)) c.in-Ok.ensures.heads c.checked.ensures.heads
+
+pub returns-in-Ok-clause-valid : goal.returns-in-Ok-clause-valid
+returns-in-Ok-clause-valid c = subst (λ (heads : List ClassHead). OnOk c.checked.result (IsHierarchy heads)) c.in-Ok.ensures.heads c.checked.ensures.valid
+
+pub returns-in-Ok-clause-fault : goal.returns-in-Ok-clause-fault
+returns-in-Ok-clause-fault c = subst (λ (heads : List ClassHead). IfErr c.checked.result (IsFault heads)) c.in-Ok.ensures.heads c.checked.ensures.fault
