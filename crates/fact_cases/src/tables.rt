@@ -2,7 +2,7 @@
 //!
 //! The program has one class, so five tokens, one field, and five methods: one of a constant, a call, a
 //! return and a throw, three of a return, and one without code.
-ghost use Rattle.std.specs.Prelude.{◌≡◌};
+ghost use Rattle.std.specs.Prelude.{◌≡◌, ◌<◌};
 ghost use Rattle.ja_ir.specs.Sample.{sample};
 
 use crate::sample::{CONSTRUCTOR, MAIN, MEMBER, WITHOUT_CODE};
