@@ -1,4 +1,4 @@
-ghost use Rattle.std.specs.Prelude.{◌≡◌, ◌≢◌, ◌<◌, ◌≤◌, IfOk, IfSome};
+ghost use Rattle.std.specs.Prelude.{◌≡◌, ◌≢◌, ◌+◌, ◌^◌, ◌<◌, ◌≤◌, IfOk, IfSome};
 ghost use Rattle.ja_io.specs.Count.{one_more};
 ghost use Rattle.ja_io.specs.Front.{IsFront};
 
@@ -124,7 +124,7 @@ impl<R: Files + AllocGlobal + Clone + Drop> Folder for DirFolder<R> {
 
 // The front of what a stream has left. One byte more than the piece is asked for, to see whether there is more.
 fn front_of<S: Read + Drop>(alloc: Global, stream: S, most: u64) -> io::Result<Piece>
-    ensures { most < u64::MAX → IfOk result (λ piece. IfSome (S.remaining stream) (λ content. IsFront content most piece)) }
+    ensures { most + 1 < 2 ^ 64 → IfOk result (λ piece. IfSome (S.remaining stream) (λ content. IsFront content most piece)) }
 {
     let mut bytes = Vec::new(alloc);
     stream

@@ -82,7 +82,7 @@ fn entry_seen<R: Files>(alloc: Global, entry: &DirEntry<R, Global>) -> io::Resul
 
 // The path of an entry of the directory `below`, with this end.
 fn path_of(alloc: Global, below: &Name, name: &Name, end: &[u8]) -> Result<Name, AllocError>
-    ensures { IfOk result (λ path. path ≡ below.now ++ (name.now ++ end.now)) }
+    ensures { IfOk result (λ path. path ≡ (below.now ++ name.now) ++ end.now) }
 {
     let mut bytes = Vec::new(alloc);
     bytes.extend_from_slice(below.bytes())?;
@@ -142,9 +142,10 @@ impl Walk {
     {
         self.met += 1;
         match entry.kind {
-            EntryKind::Directory => self.pending.push(path_of(alloc, below, &entry.name, b"/")?),
-            EntryKind::File => self.names.push(path_of(alloc, below, &entry.name, b"")?),
-            EntryKind::Other => Ok(()),
+            EntryKind::Directory => self.pending.push(path_of(alloc, below, &entry.name, b"/")?)?,
+            EntryKind::File => self.names.push(path_of(alloc, below, &entry.name, b"")?)?,
+            EntryKind::Other => {}
         }
+        Ok(())
     }
 }

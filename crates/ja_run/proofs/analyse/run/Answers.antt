@@ -25,6 +25,10 @@ pub returns-in-Ok-clause-ends : goal.returns-in-Ok-clause-ends
 returns-in-Ok-clause-ends g c =
     cut (number_of c.in-Ok.answer.status) c.in-Ok.answer.text.items c.in-Ok.ensures.due (rw c.as_slice.ensures.value at c.in-Err.ensures.cut) c.in-Err.ensures.fault
 
+pub returns-in-Ok-write_whole-clause-elsewhere : goal.returns-in-Ok-write_whole-clause-elsewhere
+returns-in-Ok-write_whole-clause-elsewhere g c =
+    nothing_elsewhere c.args.words.now _ (number_of c.in-Ok.answer.status) c.in-Ok.answer.text.items _ c.in-Ok.ensures.due
+
 pub returns-in-Ok-clause-elsewhere : goal.returns-in-Ok-clause-elsewhere
 returns-in-Ok-clause-elsewhere g c = nothing_elsewhere c.args.words.now _ (number_of c.in-Ok.answer.status) c.in-Ok.answer.text.items _ c.in-Ok.ensures.due
 
