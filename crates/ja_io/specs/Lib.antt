@@ -4,4 +4,4 @@ pub mod Edge
 pub mod Front
 pub mod MemFolder
 pub mod MemOut
-pub mod Written
+pub mod Walk

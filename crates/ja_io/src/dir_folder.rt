@@ -1,6 +1,8 @@
-ghost use Rattle.std.specs.Prelude.{◌≡◌, ◌≢◌, ◌≤◌};
+ghost use Rattle.std.specs.Prelude.{◌≡◌, ◌≢◌, ◌+◌, ◌^◌, ◌<◌, ◌≤◌, IfOk, IfSome};
 ghost use Rattle.ja_io.specs.Count.{one_more};
+ghost use Rattle.ja_io.specs.Front.{IsFront};
 
+use crate::name_text::text_of;
 use crate::walk::names_below;
 use crate::{Folder, FolderFail, Piece};
 use ja_base::{Bytes, Name, Names};
@@ -60,24 +62,14 @@ impl<R: Files + AllocGlobal + Clone + Drop> DirFolder<R> {
         }
     }
 
-    // The front of a file of the directory that was entered. One byte more than the piece is asked for, to
-    // see whether the file is longer.
+    // The front of a file of the directory that was entered.
     fn front(&self, alloc: Global, name: &Name, most: u64) -> io::Result<Piece> {
         let Some(dir) = &self.dir else {
             return Err(io::Error::from(ErrorKind::NotFound));
         };
         let name = text_of(name)?;
         let path = format!(in alloc; "{dir}/{name}")?;
-        let mut bytes = Vec::new(alloc);
-        File::open(&self.files, path.as_str())?
-            .take(most.saturating_add(1))
-            .read_to_end(&mut bytes)?;
-        let longer = bytes.len() as u64 > most;
-        bytes.truncate(most as usize);
-        Ok(Piece {
-            bytes: Bytes::from_vec(bytes),
-            longer,
-        })
+        front_of(alloc, File::open(&self.files, path.as_str())?, most)
     }
 
     // Counts a call with this outcome, and its fault where it failed for another reason than memory.
@@ -130,7 +122,18 @@ impl<R: Files + AllocGlobal + Clone + Drop> Folder for DirFolder<R> {
     }
 }
 
-// A name as text, which a path of the system is made of.
-fn text_of(name: &Name) -> io::Result<&str> {
-    str::from_utf8(name.bytes()).map_err(|_| io::Error::from(ErrorKind::InvalidFilename))
+// The front of what a stream has left. One byte more than the piece is asked for, to see whether there is more.
+fn front_of<S: Read + Drop>(alloc: Global, stream: S, most: u64) -> io::Result<Piece>
+    ensures { most + 1 < 2 ^ 64 → IfOk result (λ piece. IfSome (S.remaining stream) (λ content. IsFront content most piece)) }
+{
+    let mut bytes = Vec::new(alloc);
+    stream
+        .take(most.saturating_add(1))
+        .read_to_end(&mut bytes)?;
+    let longer = bytes.len() as u64 > most;
+    bytes.truncate(most as usize);
+    Ok(Piece {
+        bytes: Bytes::from_vec(bytes),
+        longer,
+    })
 }

@@ -7,6 +7,7 @@ mod folder;
 mod gate;
 mod mem_folder;
 mod mem_out;
+mod name_text;
 mod out;
 mod std_out;
 #[cfg(test)]

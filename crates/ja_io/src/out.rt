@@ -1,6 +1,6 @@
-ghost use Rattle.std.specs.Prelude.{◌≡◌, ℕ, ◌<◌, ◌≤◌, List, Option, length, take, IfOk, OnOk, OnErr};
+ghost use Rattle.std.specs.Prelude.{◌≡◌, ℕ, ◌<◌, ◌≤◌, List, Option, length, IfOk, OnOk, OnErr};
+ghost use Rattle.std.specs.Io.KnownBytes.{WriteAppends};
 ghost use Rattle.ja_base.specs.Cause.{Rose};
-ghost use Rattle.ja_io.specs.Written.{appended};
 
 use thiserror::Error;
 
@@ -8,7 +8,7 @@ use thiserror::Error;
 ///
 /// Its meaning is the bytes that it tells to be written, which it may leave open, and a count of faults.
 pub trait Out {
-    /// The bytes that were written. `None` where the sink tells nothing.
+    /// The bytes that were written. `None` where the sink does not tell.
     ghost written: { Self → Option (List ℕ) };
 
     /// The number of faults, as far as the counter goes.
@@ -20,8 +20,7 @@ pub trait Out {
         requires { 0 < length piece.now }
         ensures some { IfOk result (λ n. 1 ≤ n) }
         ensures within { IfOk result (λ n. n ≤ length piece.now) }
-        ensures taken { IfOk result (λ n. written self.new ≡ appended (written self.old) (take n piece.now)) }
-        ensures nothing { OnErr result (written self.new ≡ written self.old) }
+        ensures bytes { WriteAppends (written self.old) (written self.new) result piece.now }
         ensures fault { OnErr result (Rose (faults self.old) (faults self.new)) }
         ensures quiet { OnOk result (faults self.new ≡ faults self.old) }
         ensures grows { faults self.old ≤ faults self.new };

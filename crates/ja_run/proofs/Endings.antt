@@ -1,15 +1,15 @@
 -- What a run's ending says of its words and its folder.
 use Rattle.std.proofs.Common.{◌≡◌, ◌≢◌, ℕ, ◌≤◌, List, [], ◌∷◌, Option, Some, IfSome, refl, codes, sym, ◌∙◌, arith}
+use Rattle.std.specs.Io.KnownBytes.{Appends}
 use Rattle.ja_base.specs.declared.file.File.{File}
 use Rattle.ja_io.specs.Contents.{Contents}
-use Rattle.ja_io.specs.Written.{appended}
 use Rattle.ja_run.specs.Due.{ComesTo, without_files, too_many, not_first, analysed, IsAnswered, IsDue, usage, answered, IsSound, IsSoundReport, without_sinks, sound}
 use Rattle.ja_run.specs.Words.{IsAnalyse}
 use Rattle.ja_run.proofs.Told.{if_some, at_some}
 
 -- what is due and is not the usage is the answer to a directory
 pub answered_of : (words : List (List ℕ)) (told : Option Contents) (before after : Option (List ℕ)) (status : ℕ) (text : List ℕ) → IsDue words told status text
-    → after ≡ appended before text → status ≢ 2 → IsAnswered words told before after status
+    → Appends before after text → status ≢ 2 → IsAnswered words told before after status
 answered_of words told before after _ _ (usage wrong) written other = absurd (other refl)
 answered_of words told before after _ _ (answered dir status text right judged due) written other =
     record { dir = dir; right = right; text = text; due = judged; written = written }
@@ -37,7 +37,7 @@ sound_report files _ _ (analysed file m status text one first analysis) low =
 
 -- what is due with the status clean or warned is a sound report
 pub sound_of : (words : List (List ℕ)) (told : Option Contents) (before after : Option (List ℕ)) (status : ℕ) (text : List ℕ) → IsDue words told status text
-    → after ≡ appended before text → status ≤ 1 → IsSound told before after
+    → Appends before after text → status ≤ 1 → IsSound told before after
 sound_of words told before after _ _ (usage wrong) written low = absurd (omega arith)
 sound_of words told before after _ _ (answered dir status text right judged due) written low = record {
   text = text;

@@ -1,13 +1,7 @@
 -- Fronts of a text that are written one after another.
-use Rattle.std.proofs.Common.{◌≡◌, ℕ, zero, suc, ◌+◌, ◌-◌, ◌≤◌, List, [], ◌∷◌, ◌++◌, length, take, drop, Option, Some, None, refl, ap, sym, ◌∙◌, append_assoc, arith}
+use Rattle.std.proofs.Common.{◌≡◌, ℕ, zero, suc, ◌+◌, ◌-◌, ◌≤◌, List, [], ◌∷◌, ◌++◌, length, take, drop, refl, ap, sym, ◌∙◌, arith}
 use Rattle.std.proofs.lemmas.List.{take_rest, length-take-le, take-append-drop}
 use Rattle.std.proofs.Math.Seq.{take-append-add}
-use Rattle.ja_io.specs.Written.{appended}
-
--- what is appended in two parts is appended as one
-pub appended_twice : (told : Option (List ℕ)) (x y : List ℕ) → appended (appended told x) y ≡ appended told (x ++ y)
-appended_twice None x y = refl
-appended_twice (Some before) x y = ap Some (append_assoc before x y)
 
 -- a longer front is a shorter one and the front of the rest
 pub take_more_front : (at n : ℕ) (text : List ℕ) → at ≤ length text → take (at + n) text ≡ take at text ++ take n (drop at text)

@@ -2,11 +2,11 @@
 use Rattle.std.specs.Prelude.{◌≡◌, ◌≢◌, ℕ, ◌≤◌, ◌⊎◌, Bool, List, [], ◌∷◌, ◌++◌, length, codes, Option, Some, IfSome, IsSomeAnd, slice_get, IsPermutation, IsSorted}
 use Rattle.std.specs.Ordering.{nat_cmp}
 use Rattle.std.specs.Cmp.Lexicographic.{slice_cmp}
+use Rattle.std.specs.Io.KnownBytes.{Appends}
 use Rattle.ja_base.specs.Limit.{max_file_bytes}
 use Rattle.ja_base.specs.Cause.{Rose}
 use Rattle.ja_base.specs.declared.file.File.{File}
 use Rattle.ja_io.specs.Contents.{Contents, names_of}
-use Rattle.ja_io.specs.Written.{appended}
 use Rattle.ja_class.specs.declared.first.FirstMethod.{FirstMethod}
 use Rattle.ja_class.specs.FirstForm.{IsFirstForm}
 use Rattle.ja_plain.specs.Verdict.{AreVerdicts}
@@ -79,7 +79,7 @@ pub record HasFailed (words : List (List ℕ)) (told : Option Contents) (faults_
 -- how a run ends where these statuses and texts are due: by what the sink tells before and after it, and by what failed
 pub data Ends (Due : (status : ℕ) → (text : List ℕ) → Type 0) (before after : Option (List ℕ)) (FolderFailed SinkFailed : Type 0) : (status : ℕ) → Type 0 where
   -- the text was written whole
-  whole : (status : ℕ) (text : List ℕ) → Due status text → after ≡ appended before text → Ends Due before after FolderFailed SinkFailed status
+  whole : (status : ℕ) (text : List ℕ) → Due status text → Appends before after text → Ends Due before after FolderFailed SinkFailed status
   -- writing failed after a proper prefix of the text
   cut : (status : ℕ) (text : List ℕ) → Due status text → IsCut before after text → SinkFailed → Ends Due before after FolderFailed SinkFailed 5
   -- the folder failed, and nothing was written
@@ -93,12 +93,12 @@ pub record IsAnswered (words : List (List ℕ)) (told : Option Contents) (before
   pub right : IsAnalyse words dir
   pub text : List ℕ
   pub due : IfSome told (λ held. (held.dir ≡ dir) × ComesTo held.files status text)
-  pub written : after ≡ appended before text
+  pub written : Appends before after text
 
 -- the words are wrong, and the usage lines were written whole
 pub record IsUsage (words : List (List ℕ)) (before after : Option (List ℕ)) : Type 0 where
   pub wrong : AreWrong words
-  pub written : after ≡ appended before usage_lines
+  pub written : Appends before after usage_lines
 
 -- the text is a report in which no sink call is wrongly said to be clean: no run of the marked machine, over any list of
 -- the environment's actions, passes a tainted value to a sink call whose line says clean
@@ -110,5 +110,5 @@ pub data IsSoundReport (files : List File) (text : List ℕ) : Type 0 where
 -- where the folder tells its files, the text that was written is such a report on them
 pub record IsSound (told : Option Contents) (before after : Option (List ℕ)) : Type 0 where
   pub text : List ℕ
-  pub written : after ≡ appended before text
+  pub written : Appends before after text
   pub report : IfSome told (λ held. IsSoundReport held.files text)

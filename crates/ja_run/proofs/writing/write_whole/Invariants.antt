@@ -1,12 +1,12 @@
-use Rattle.std.proofs.Common.{◌≡◌, ◌≤◌, ◌-◌, length, take}
-use Rattle.ja_io.specs.Written.{appended}
+use Rattle.std.proofs.Common.{◌≤◌, ◌-◌, length, take}
+use Rattle.std.specs.Io.KnownBytes.{Appends}
 use Rattle.ja_run.proofs.writing.write_whole.Given as goal
 
 -- the front of the text is written
 abbrev pub invariant-loop-at : goal.invariant-loop-at
 invariant-loop-at g l = record {
   within : l.at ≤ length l.text;
-  front : g.O.Out.written l.out ≡ appended (g.O.Out.written l.fn.out) (take l.at l.text);
+  front : Appends (g.O.Out.written l.fn.out) (g.O.Out.written l.out) (take l.at l.text);
   counted : g.O.Out.faults l.fn.out ≤ g.O.Out.faults l.out;
 }
 
