@@ -127,9 +127,7 @@ fn front_of<S: Read + Drop>(alloc: Global, stream: S, most: u64) -> io::Result<P
     ensures { most + 1 < 2 ^ 64 → IfOk result (λ piece. IfSome (S.remaining stream) (λ content. IsFront content most piece)) }
 {
     let mut bytes = Vec::new(alloc);
-    stream
-        .take(most.saturating_add(1))
-        .read_to_end(&mut bytes)?;
+    stream.take(most.saturating_add(1)).read_to_end(&mut bytes)?;
     let longer = bytes.len() as u64 > most;
     bytes.truncate(most as usize);
     Ok(Piece {

@@ -142,7 +142,9 @@ impl Walk {
     {
         self.met += 1;
         match entry.kind {
-            EntryKind::Directory => self.pending.push(path_of(alloc, below, &entry.name, b"/")?)?,
+            EntryKind::Directory => self
+                .pending
+                .push(path_of(alloc, below, &entry.name, b"/")?)?,
             EntryKind::File => self.names.push(path_of(alloc, below, &entry.name, b"")?)?,
             EntryKind::Other => {}
         }
