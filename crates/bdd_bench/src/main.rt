@@ -20,6 +20,8 @@ mod taint;
 use compose::Forgetting;
 use failure::Failure;
 use identity::identity;
+use ja_base::{MAX_SLOTS, MIN_SLOTS};
+use ja_bdd::MAX_ENTRIES;
 use ja_node_core::AnyAim;
 use ja_node_table::NodeTable;
 use pool::Pool;
@@ -88,10 +90,10 @@ fn measure<R: Clock>(
     room: u64,
     asked: Asked,
 ) -> Result<(u64, Duration), Failure>
-    requires { (16 ≤ room) × (room ≤ 16777216) }
+    requires { (MIN_SLOTS ≤ room) × (room ≤ MAX_SLOTS) }
 {
     let (table, seat) = NodeTable::new(alloc, room, AnyAim)?;
-    let entries = asked.entries.max(1).min(1 << 20) as usize;
+    let entries = asked.entries.max(1).min(MAX_ENTRIES as u64) as usize;
     let mut pool = Pool::new(alloc, &table, seat, entries)?;
     let start = Instant::now(rt)?;
     let answer = match asked.work {

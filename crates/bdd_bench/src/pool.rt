@@ -2,9 +2,10 @@ ghost use Rattle.std.specs.Prelude.{◌≡◌, ◌≤◌, ◌<◌, IfSome};
 ghost use Rattle.ja_node_core.specs.Node.{Knows};
 ghost use Rattle.ja_bdd.specs.Meaning.{Keeps};
 ghost use Rattle.ja_bdd.specs.Workers.{IsWorkerOf, seen};
+ghost use Rattle.ja_base.specs.Limit.{last_variable};
 
 use crate::failure::Failure;
-use ja_bdd::{Copies, Worker};
+use ja_bdd::{Copies, MAX_ENTRIES, Worker};
 use ja_node_core::AnyAim;
 use ja_node_table::{Node, NodeSeat, NodeTable};
 use std::alloc::Global;
@@ -66,7 +67,7 @@ fn literal(
     value: bool,
 ) -> Option<Node>
     requires worker { IsWorkerOf table.now worker.old }
-    requires var { var ≤ 4094 }
+    requires var { var ≤ last_variable }
     ensures worker { IsWorkerOf table.now worker.new }
     ensures keeps { Keeps (seen worker.old) (seen worker.new) }
     ensures known { IfSome result (λ n. Knows (seen worker.new) n.number) }
@@ -102,7 +103,7 @@ impl Pool {
         entries: usize,
     ) -> Result<Pool, Failure>
         requires seat { IsOf table.now seat }
-        requires entries { (1 ≤ entries) × (entries ≤ 1048576) }
+        requires entries { (1 ≤ entries) × (entries ≤ MAX_ENTRIES) }
         ensures { IfOk result (λ p. IsReady table.now p) }
     {
         let Ok(worker) = Worker::with_cache(alloc, seat, entries) else {
@@ -115,7 +116,7 @@ impl Pool {
     /// Adds the node of a variable or of its negation.
     fn add(&mut self, table: &NodeTable<AnyAim>, var: u32, value: bool) -> Result<(), Failure>
         requires ready { IsReady table.now self.old }
-        requires var { var ≤ 4094 }
+        requires var { var ≤ last_variable }
         ensures { OnOk result (IsReady table.now self.new) }
     {
         let Some(made) = literal(table, &mut self.worker, var, value) else {
@@ -134,7 +135,7 @@ impl Pool {
         entries: usize,
     ) -> Result<Pool, Failure>
         requires seat { IsOf table.now seat }
-        requires entries { (1 ≤ entries) × (entries ≤ 1048576) }
+        requires entries { (1 ≤ entries) × (entries ≤ MAX_ENTRIES) }
         ensures { IfOk result (λ p. IsReady table.now p) }
     {
         let mut pool = Pool::constants(alloc, table, seat, entries)?;

@@ -6,6 +6,7 @@ ghost use Rattle.bdd_bench.specs.Ready.{IsReady};
 use crate::compose::{Forgetting, compose};
 use crate::failure::Failure;
 use crate::pool::{Pool, Step, TRUE, is, is_not};
+use ja_base::MAX_VARIABLES;
 use ja_bdd::Worker;
 use ja_node_core::AnyAim;
 use ja_node_table::{Node, NodeTable};
@@ -20,7 +21,7 @@ const JOINED: u32 = 15;
 const FORGOTTEN: u32 = 10;
 
 /// The last variable of a diagram.
-const LAST: u32 = 4094;
+const LAST: u32 = MAX_VARIABLES - 1;
 
 fn next_random(random: u64) -> u64 {
     random

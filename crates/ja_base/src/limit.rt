@@ -24,3 +24,10 @@ pub const MAX_VARIABLES: u32 = 4_095;
 
 /// The most classes that the generator makes. It makes at least one.
 pub const MAX_GENERATED_CLASSES: u32 = 4_000;
+
+/// The most categories of marks that a table may have.
+pub const MAX_CATEGORIES: u64 = 8;
+
+/// The most classes, the most fields, the most methods and the most instructions that a program numbers. Each takes a
+/// byte of a file at least, and all files have no more bytes.
+pub const MAX_NUMBERED: u64 = MAX_TOTAL_BYTES;

@@ -9,6 +9,7 @@ use Rattle.ja_bdd.specs.declared.copies.Copies.{Copies}
 use Rattle.ja_bdd.specs.Functions.{Function, forgotten, IsAimed}
 use Rattle.ja_bdd.specs.Meaning.{with_below}
 use Rattle.ja_bdd.specs.Room.{LacksRoomUnder}
+use Rattle.ja_base.specs.Limit.{last_variable, max_variables}
 
 -- whether the variable is of one of these copies
 abbrev pub in_copies : Copies → ℕ → Bool
@@ -25,11 +26,11 @@ forgotten_below (suc n) goes φ = forgotten_if (goes n) n (forgotten_below n goe
 
 -- all variables that go are forgotten. No node has a variable above 4,094
 unfoldable pub all_forgotten : (ℕ → Bool) → Function → Function
-all_forgotten goes φ = forgotten_below 4095 goes φ
+all_forgotten goes φ = forgotten_below max_variables goes φ
 
 -- the assignments have one value for each variable that stays
 abbrev pub AgreeOnRest : (ℕ → Bool) → Assignment → Assignment → Type 0
-AgreeOnRest goes b a = (u : ℕ) → (u ≤ 4094 → goes u ≡ false) → b u ≡ a u
+AgreeOnRest goes b a = (u : ℕ) → (u ≤ last_variable → goes u ≡ false) → b u ≡ a u
 
 -- the function with the variables below v fixed to their values in an assignment
 abbrev pub fixed_below : ℕ → Assignment → Function → Function

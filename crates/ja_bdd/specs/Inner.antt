@@ -12,6 +12,8 @@ use Rattle.ja_bdd.specs.declared.cache.Joint.TheVariants.{And, Or}
 use Rattle.ja_bdd.specs.declared.cache.Question.{Question}
 use Rattle.ja_bdd.specs.declared.cache.Question.TheVariants.{Join, Forget, Shift, Product}
 use Rattle.ja_bdd.specs.declared.cache.Entry.{Entry}
+use Rattle.ja_bdd.specs.declared.cache.TheConstants.{SHIFT_ENTRIES}
+use Rattle.ja_base.specs.Limit.{max_variables}
 
 abbrev pub join_bits : Joint → Bool → Bool → Bool
 join_bits And p q = p && q
@@ -85,7 +87,7 @@ HasKept es q n new = (i : ℕ) × (new ≡ slice_set es i record { asked = q; ma
 
 -- how many variables there are from the node's own to the last
 abbrev pub depth : Words → ℕ → ℕ
-depth k n = min (4096 * (n - 1)) (4096 - var_of (k n))
+depth k n = min ((max_variables + 1) * (n - 1)) (max_variables + 1 - var_of (k n))
 
 abbrev pub depth_of_both : Words → ℕ → ℕ → ℕ
 depth_of_both k f g = max (depth k f) (depth k g)
@@ -113,7 +115,7 @@ is_shift (Product f g c) = false
 
 -- answers to renamings stand at the first places alone
 abbrev pub AreShiftsEarly : List Entry → Type 0
-AreShiftsEarly es = (i : ℕ) (e : Entry) → slice_get es i ≡ Some e → 4096 ≤ i → is_shift e.asked ≡ false
+AreShiftsEarly es = (i : ℕ) (e : Entry) → slice_get es i ≡ Some e → SHIFT_ENTRIES ≤ i → is_shift e.asked ≡ false
 
 -- the constant false twice was to be conjoined
 abbrev pub AsksNothing : Question → Type 0

@@ -4,6 +4,7 @@ use Rattle.ja_node_core.specs.Tree.{Assignment}
 use Rattle.ja_node_core.specs.Word.{var_of, low_of, high_of}
 use Rattle.ja_node_core.specs.Node.{Words, Knows, IsNode}
 use Rattle.ja_bdd.specs.Functions.{Function, fixed, chosen, IsFrom}
+use Rattle.ja_base.specs.Limit.{max_variables}
 
 -- the value of a node, down to so many levels: that of a constant is told by its number, that of any other node is its high child's where its variable is true, else its low child's
 unfoldable pub value_within : ℕ → Words → ℕ → Function
@@ -14,7 +15,7 @@ value_within (suc levels) at n a =
 
 -- what a node means. Variables rise from a node to its children, so there are no more levels than variables
 unfoldable pub meaning : Words → ℕ → Function
-meaning at n = value_within 4095 at n
+meaning at n = value_within max_variables at n
 
 -- the node is known, and means the function
 abbrev pub IsMeant : Words → ℕ → Function → Type 0

@@ -1,4 +1,5 @@
 ghost use Rattle.std.specs.Prelude.{◌≡◌, length};
+ghost use Rattle.ja_bdd.specs.declared.assign.TheConstants.{VALUES};
 
 use ja_base::Memory;
 use std::alloc::Global;
@@ -10,7 +11,7 @@ const VALUES: usize = 4_096;
 #[derive(Drop)]
 pub struct Assign {
     values: Vec<bool>,
-    ghost counted: { length values.items ≡ 4096 },
+    ghost counted: { length values.items ≡ VALUES },
 }
 
 impl Assign {
@@ -28,7 +29,7 @@ impl Assign {
 
     /// The value of a variable, at most 4,095.
     pub fn get(&self, var: u32) -> bool
-        requires { var ≤ 4095 }
+        requires { var < VALUES }
         ensures { result ≡ values_of self.now var }
     {
         self.values[var as usize]
@@ -36,7 +37,7 @@ impl Assign {
 
     /// Sets the value of a variable, at most 4,095.
     pub(crate) fn set(&mut self, var: u32, value: bool)
-        requires { var ≤ 4095 }
+        requires { var < VALUES }
         ensures { (v : ℕ) → values_of self.new v ≡ with_var (values_of self.old) var value v }
     {
         self.values[var as usize] = value;

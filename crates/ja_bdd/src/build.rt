@@ -5,6 +5,7 @@ ghost use Rattle.ja_node_table.specs.Seats.{aim_of, IsOf, known, wanted_word};
 ghost use Rattle.ja_bdd.specs.Functions.{chosen, IsAfter, IsAimed};
 ghost use Rattle.ja_bdd.specs.Meaning.{meaning, IsMeant};
 ghost use Rattle.ja_bdd.specs.Room.{LacksRoomUnder};
+ghost use Rattle.ja_base.specs.Limit.{last_variable};
 
 use ja_node_core::Aim;
 use ja_node_table::{Full, Node, NodeSeat, NodeTable};
@@ -18,7 +19,7 @@ pub fn build<A: Aim>(
     hi: Node,
 ) -> Result<Node, Full<A>>
     requires seat { IsOf table.now seat.old }
-    requires var { var ≤ 4094 }
+    requires var { var ≤ last_variable }
     requires known { Knows (known seat.old) lo.number × Knows (known seat.old) hi.number }
     requires later { IsAfter var (meaning (known seat.old) lo.number) × IsAfter var (meaning (known seat.old) hi.number) }
     requires aim { lo.number ≢ hi.number → IsAimed (A.aims (aim_of table.now)) (chosen var (meaning (known seat.old) lo.number) (meaning (known seat.old) hi.number)) }

@@ -6,6 +6,9 @@ use ja_node_table::Node;
 /// How many entries a cache has, where nothing else was chosen.
 pub const ENTRIES: usize = 1_024;
 
+/// The most entries that a cache may have.
+pub const MAX_ENTRIES: usize = 1_048_576;
+
 /// How many places of a cache may have answers to renamings.
 pub const SHIFT_ENTRIES: usize = 4_096;
 
@@ -87,9 +90,9 @@ impl Question {
 
     /// The one place of a cache of so many entries where the answer may be kept.
     pub fn place(self, entries: usize) -> usize
-        requires { (1 ≤ entries) × (entries ≤ 1048576) }
+        requires { (1 ≤ entries) × (entries ≤ MAX_ENTRIES) }
         ensures within { result < entries }
-        ensures early { is_shift self ≡ true → result < 4096 }
+        ensures early { is_shift self ≡ true → result < SHIFT_ENTRIES }
     {
         let (kind, first, second) = match self {
             Question::Join(Joint::And, f, g) => (0, f.number, g.number),
@@ -111,7 +114,7 @@ impl Question {
 /// So much of the numbers below `entries`, as a 32 bit number is of all of these.
 fn scaled(upper: u64, entries: usize) -> usize
     requires upper { upper < 4294967296 }
-    requires entries { (1 ≤ entries) × (entries ≤ 1048576) }
+    requires entries { (1 ≤ entries) × (entries ≤ MAX_ENTRIES) }
     ensures { result < entries }
 {
     (upper * entries as u64 >> 32) as usize

@@ -15,6 +15,7 @@ mod shift;
 mod worker;
 
 pub use assign::Assign;
+pub use cache::MAX_ENTRIES;
 pub use copies::Copies;
 pub use law::law_forgotten;
 pub use renaming::Renaming;

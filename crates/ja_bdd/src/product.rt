@@ -8,6 +8,7 @@ ghost use Rattle.ja_bdd.specs.Room.{LacksRoomUnder};
 ghost use Rattle.ja_bdd.specs.Inner.{joined, IsOpen, ArePieces, depth_of_both};
 ghost use Rattle.ja_bdd.specs.declared.cache.Joint.TheVariants.{And};
 ghost use Rattle.ja_bdd.specs.Workers.{IsWorkerOf, seen};
+ghost use Rattle.ja_base.specs.Limit.{last_variable};
 
 use crate::cache::{Joint, Question};
 use crate::copies::Copies;
@@ -61,7 +62,7 @@ impl<A: Aim> Worker<A> {
         high: Node,
     ) -> Result<Node, Full<A>>
         requires seat { IsOf table.now self.old.seat }
-        requires var { var ≤ 4094 }
+        requires var { var ≤ last_variable }
         requires pieces { ArePieces (known self.old.seat) (in_copies copies) f.number g.number var low.number high.number }
         requires aim { IsAimed (A.aims (aim_of table.now)) (all_forgotten (in_copies copies) (joined And (meaning (known self.old.seat) f.number) (meaning (known self.old.seat) g.number))) }
         ensures seat { IsOf table.now self.new.seat }

@@ -1,5 +1,6 @@
 ghost use Rattle.std.specs.Prelude.{◌≡◌, ◌<◌, ◌≤◌, length};
 ghost use Rattle.std.specs.List.{All};
+ghost use Rattle.ja_base.specs.Limit.{last_variable};
 
 use ja_base::MAX_VARIABLES;
 
@@ -7,7 +8,7 @@ use ja_base::MAX_VARIABLES;
 #[derive(Drop)]
 pub struct Renaming {
     partners: [u16; MAX_VARIABLES as usize],
-    ghost small: { All (λ partner. partner ≤ 4094) partners },
+    ghost small: { All (λ partner. partner ≤ last_variable) partners },
 }
 
 impl Renaming {
@@ -16,7 +17,7 @@ impl Renaming {
 
     /// The renaming in which each variable, at most 4,094, is its own partner. It takes no memory.
     pub fn new() -> Renaming
-        ensures { (v : ℕ) → v ≤ 4094 → partner_of result v ≡ v }
+        ensures { (v : ℕ) → v ≤ last_variable → partner_of result v ≡ v }
     {
         let mut partners = [0; MAX_VARIABLES as usize];
         for var in 0..MAX_VARIABLES {
@@ -27,7 +28,7 @@ impl Renaming {
 
     /// Makes `to` the partner of `from`. Both are at most 4,094.
     pub fn put(&mut self, from: u32, to: u32)
-        requires { (from ≤ 4094) × (to ≤ 4094) }
+        requires { (from ≤ last_variable) × (to ≤ last_variable) }
         ensures partner { partner_of self.new from ≡ to }
         ensures others { (v : ℕ) → v ≢ from → partner_of self.new v ≡ partner_of self.old v }
     {
@@ -36,9 +37,9 @@ impl Renaming {
 
     /// The partner of a variable, at most 4,094.
     pub(crate) fn partner(&self, var: u32) -> u32
-        requires { var ≤ 4094 }
+        requires { var ≤ last_variable }
         ensures partner { result ≡ partner_of self.now var }
-        ensures small { result ≤ 4094 }
+        ensures small { result ≤ last_variable }
     {
         u32::from(self.partners[var as usize])
     }

@@ -1,9 +1,11 @@
 ghost use Rattle.std.specs.Prelude.{◌≤◌, None, length};
 ghost use Rattle.ja_node_table.specs.Seats.{known};
 ghost use Rattle.ja_bdd.specs.Inner.{AreRight, AreShiftsEarly};
+ghost use Rattle.ja_base.specs.Limit.{last_variable};
+ghost use Rattle.ja_bdd.specs.declared.cache.TheConstants.{MAX_ENTRIES};
 
 use crate::build::build;
-use crate::cache::{ENTRIES, Entry, NOTHING};
+use crate::cache::{ENTRIES, Entry, MAX_ENTRIES, NOTHING};
 use ja_node_core::Aim;
 use ja_node_table::{Full, Node, NodeSeat, NodeTable, Parts};
 use std::alloc::Global;
@@ -15,7 +17,7 @@ use std::alloc::Global;
 pub struct Worker<A: Aim> {
     pub(crate) seat: NodeSeat<A>,
     pub(crate) cache: Vec<Entry>,
-    ghost counted: { (1 ≤ length cache.items) × (length cache.items ≤ 1048576) },
+    ghost counted: { (1 ≤ length cache.items) × (length cache.items ≤ MAX_ENTRIES) },
     // Answers to renamings stand at the first places alone, so that few are gone through to take them out.
     ghost early: { AreShiftsEarly cache.items },
     ghost right: { ∥ AreRight None (known seat) cache.items ∥₁ },
@@ -47,7 +49,7 @@ impl<A: Aim> Worker<A> {
         seat: NodeSeat<A>,
         entries: usize,
     ) -> Result<Worker<A>, NodeSeat<A>>
-        requires entries { (1 ≤ entries) × (entries ≤ 1048576) }
+        requires entries { (1 ≤ entries) × (entries ≤ MAX_ENTRIES) }
         ensures worker { IfOk result (λ w. (worker_home w ≡ seat_home seat) × (seen w ≡ known seat)) }
         ensures memory { IfErr result (λ s. s ≡ seat) }
     {
@@ -78,7 +80,7 @@ impl<A: Aim> Worker<A> {
         hi: Node,
     ) -> Result<Node, Full<A>>
         requires worker { IsWorkerOf table.now self.old }
-        requires var { var ≤ 4094 }
+        requires var { var ≤ last_variable }
         requires known { Knows (seen self.old) lo.number × Knows (seen self.old) hi.number }
         requires later { IsAfter var (meaning (seen self.old) lo.number) × IsAfter var (meaning (seen self.old) hi.number) }
         requires aim { lo.number ≢ hi.number → IsAimed (A.aims (aim_of table.now)) (chosen var (meaning (seen self.old) lo.number) (meaning (seen self.old) hi.number)) }

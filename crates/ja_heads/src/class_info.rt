@@ -2,6 +2,7 @@ ghost use Rattle.std.specs.Prelude.{◌≡◌, ◌<◌, ◌≤◌, ◌^◌, ◌�
 ghost use Rattle.ja_hier.specs.declared.starts.Member.TheVariants.{Method};
 ghost use Rattle.ja_hier.specs.Members.{count_of};
 ghost use Rattle.ja_heads.specs.Classes.{AreClassInfos, AreSupers, IsAbsorbing, IsClassInfo};
+ghost use Rattle.ja_base.specs.Limit.{max_numbered};
 
 use crate::initializer::initializers;
 use crate::selection::selections;
@@ -13,8 +14,8 @@ use std::alloc::Global;
 
 /// What a program says of each of its classes. The name of the file of each class stands at its place.
 pub fn class_infos(alloc: Global, hier: &Hier, files: &Names) -> Result<ClassInfos, Memory>
-    requires few { length hier.now ≤ 2 ^ 26 }
-    requires methods { sum_by (count_of Method) hier.now ≤ 2 ^ 26 }
+    requires few { length hier.now ≤ max_numbered }
+    requires methods { sum_by (count_of Method) hier.now ≤ max_numbered }
     requires files { length files.now ≡ length hier.now }
     ensures { IfOk result (AreClassInfos hier.now files.now) }
 {
@@ -27,8 +28,8 @@ pub fn class_infos(alloc: Global, hier: &Hier, files: &Names) -> Result<ClassInf
 
 /// What a program says of a class.
 fn class_info(alloc: Global, hier: &Hier, class: ClassId, file: &Name) -> Result<ClassInfo, Memory>
-    requires few { length hier.now ≤ 2 ^ 26 }
-    requires methods { sum_by (count_of Method) hier.now ≤ 2 ^ 26 }
+    requires few { length hier.now ≤ max_numbered }
+    requires methods { sum_by (count_of Method) hier.now ≤ max_numbered }
     requires inside { class.0 < length hier.now }
     ensures { IfOk result (IsClassInfo hier.now file.now class.0) }
 {
@@ -52,7 +53,7 @@ fn class_info(alloc: Global, hier: &Hier, class: ClassId, file: &Name) -> Result
 
 /// The program classes at or above a class, in ascending order.
 fn supers(alloc: Global, hier: &Hier, class: ClassId) -> Result<ClassIds, Memory>
-    requires few { length hier.now ≤ 2 ^ 26 }
+    requires few { length hier.now ≤ max_numbered }
     requires inside { class.0 < length hier.now }
     ensures { IfOk result (AreSupers hier.now class.0) }
 {

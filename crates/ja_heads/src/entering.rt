@@ -3,6 +3,7 @@ ghost use Rattle.ja_hier.specs.declared.starts.Member.TheVariants.{Method};
 ghost use Rattle.ja_hier.specs.Members.{count_of};
 ghost use Rattle.ja_heads.specs.Entries as specs;
 ghost use Rattle.ja_heads.specs.Entries.{CanBeMade, Enters, EntersOnObject, EntersStatic, HasLibraryType, IsForClass, is_entry_point};
+ghost use Rattle.ja_base.specs.Limit.{max_numbered};
 
 use ja_base::{ClassId, MethodId, Name};
 use ja_hier::Hier;
@@ -19,7 +20,7 @@ pub(crate) fn entering(
 ) -> Option<MethodId>
     requires found { slice_get hier.now class.0 ≡ Some head.now }
     requires first { first ≡ sum_by (count_of Method) (take class.0 hier.now) }
-    requires few { first + length head.now.methods ≤ 2 ^ 26 }
+    requires few { first + length head.now.methods ≤ max_numbered }
     ensures some { IfSome result (λ m. Enters hier.now class.0 head.now row.now m.0) }
     ensures none { IfNone result ((m : ℕ) → Enters hier.now class.0 head.now row.now m → ⊥) }
 {
@@ -39,7 +40,7 @@ fn entering_static(
     row: &EntryRow,
 ) -> Option<MethodId>
     requires first { first ≡ sum_by (count_of Method) (take class.0 hier.now) }
-    requires few { first + length head.now.methods ≤ 2 ^ 26 }
+    requires few { first + length head.now.methods ≤ max_numbered }
     ensures some { IfSome result (λ m. EntersStatic hier.now class.0 head.now row.now m.0) }
     ensures none { IfNone result ((m : ℕ) → EntersStatic hier.now class.0 head.now row.now m → ⊥) }
 {

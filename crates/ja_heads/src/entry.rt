@@ -3,6 +3,7 @@ ghost use Rattle.ja_hier.specs.declared.starts.Member.TheVariants.{Method};
 ghost use Rattle.ja_hier.specs.Members.{count_of};
 ghost use Rattle.ja_heads.specs.Entries as specs;
 ghost use Rattle.ja_heads.specs.Entries.{AreEntries, ClassAdds, RowAdds, RowsAdd};
+ghost use Rattle.ja_base.specs.Limit.{max_numbered};
 
 use crate::entering::entering;
 use ja_base::{ClassId, Memory, MethodId, Seq};
@@ -14,8 +15,8 @@ use std::alloc::Global;
 /// The methods that the environment may call: for each class that has objects of its own and each entry
 /// row of the table, in order, the method that the row makes an entry of the class, if there is one.
 pub fn entries(alloc: Global, hier: &Hier, table: &Table) -> Result<Entries, Memory>
-    requires classes { length hier.now ≤ 2 ^ 26 }
-    requires methods { sum_by (count_of Method) hier.now ≤ 2 ^ 26 }
+    requires classes { length hier.now ≤ max_numbered }
+    requires methods { sum_by (count_of Method) hier.now ≤ max_numbered }
     ensures { IfOk result (AreEntries hier.now table.now) }
 {
     let mut entries = Seq::new(alloc);
@@ -48,7 +49,7 @@ fn add_class(
 ) -> Result<(), Memory>
     requires found { slice_get hier.now class.0 ≡ Some head.now }
     requires first { first ≡ sum_by (count_of Method) (take class.0 hier.now) }
-    requires few { first + length head.now.methods ≤ 2 ^ 26 }
+    requires few { first + length head.now.methods ≤ max_numbered }
     ensures { OnOk result (ClassAdds hier.now rows.now class.0 entries.old entries.new) }
 {
     if !is_concrete(head) {
@@ -77,7 +78,7 @@ fn add_rows(
 ) -> Result<(), Memory>
     requires found { slice_get hier.now class.0 ≡ Some head.now }
     requires first { first ≡ sum_by (count_of Method) (take class.0 hier.now) }
-    requires few { first + length head.now.methods ≤ 2 ^ 26 }
+    requires few { first + length head.now.methods ≤ max_numbered }
     ensures { OnOk result (RowsAdd hier.now rows.now class.0 head.now entries.old (length rows.now) entries.new) }
 {
     for row in rows {
@@ -98,7 +99,7 @@ fn add_row(
 ) -> Result<(), Memory>
     requires found { slice_get hier.now class.0 ≡ Some head.now }
     requires first { first ≡ sum_by (count_of Method) (take class.0 hier.now) }
-    requires few { first + length head.now.methods ≤ 2 ^ 26 }
+    requires few { first + length head.now.methods ≤ max_numbered }
     ensures { OnOk result (RowAdds hier.now class.0 head.now row.now entries.old entries.new) }
 {
     let Some(method) = entering(hier, class, head, first, row) else {

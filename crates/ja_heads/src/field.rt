@@ -1,5 +1,6 @@
 ghost use Rattle.std.specs.Prelude.{◌≡◌, ◌≤◌, ◌^◌, ◌++◌, length, map, IfOk, OnOk};
 ghost use Rattle.ja_heads.specs.Fields.{AreFields, field_of};
+ghost use Rattle.ja_base.specs.Limit.{max_numbered};
 
 use ja_base::{ClassId, Memory, Seq};
 use ja_hier::Hier;
@@ -8,7 +9,7 @@ use std::alloc::Global;
 
 /// The fields of a program's classes, in the order of the classes and, in one class, as declared.
 pub fn fields(alloc: Global, hier: &Hier) -> Result<Fields, Memory>
-    requires { length hier.now ≤ 2 ^ 26 }
+    requires { length hier.now ≤ max_numbered }
     ensures { IfOk result (AreFields hier.now) }
 {
     let mut fields = Seq::new(alloc);

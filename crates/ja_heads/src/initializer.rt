@@ -4,6 +4,7 @@ ghost use Rattle.ja_hier.specs.Members.{count_of};
 ghost use Rattle.ja_heads.specs.Initializers as specs;
 ghost use Rattle.ja_heads.specs.Initializers.{initializers_from, initializers_in, initializers_of};
 ghost use Rattle.ja_heads.specs.Signatures.{numbers_of};
+ghost use Rattle.ja_base.specs.Limit.{max_numbered};
 
 use ja_base::{ClassId, Memory, MethodId, Seq};
 use ja_hier::Hier;
@@ -17,7 +18,7 @@ pub(crate) fn initializers(
     classes: &[ClassId],
 ) -> Result<MethodIds, Memory>
     requires inside { All (λ d. d.0 < length hier.now) classes.now }
-    requires methods { sum_by (count_of Method) hier.now ≤ 2 ^ 26 }
+    requires methods { sum_by (count_of Method) hier.now ≤ max_numbered }
     ensures { IfOk result (λ inits. inits ≡ initializers_of hier.now (numbers_of classes.now)) }
 {
     let mut inits = Seq::new(alloc);
@@ -30,7 +31,7 @@ pub(crate) fn initializers(
 /// Adds the class initialisers that a class declares.
 fn add_class(inits: &mut MethodIds, hier: &Hier, class: ClassId) -> Result<(), Memory>
     requires inside { class.0 < length hier.now }
-    requires methods { sum_by (count_of Method) hier.now ≤ 2 ^ 26 }
+    requires methods { sum_by (count_of Method) hier.now ≤ max_numbered }
     ensures { OnOk result (inits.new ≡ inits.old ++ initializers_in hier.now class.0) }
 {
     let head = hier.heads().at(class.0 as u64);
@@ -42,7 +43,7 @@ fn add_class(inits: &mut MethodIds, hier: &Hier, class: ClassId) -> Result<(), M
 
 /// Adds the class initialisers among these methods, which are numbered from `first` on.
 fn add_methods(inits: &mut MethodIds, first: u64, methods: &[HeadMethod]) -> Result<(), Memory>
-    requires { first + length methods.now ≤ 2 ^ 26 }
+    requires { first + length methods.now ≤ max_numbered }
     ensures { OnOk result (inits.new ≡ inits.old ++ initializers_from first methods.now) }
 {
     for (k, method) in methods.iter().enumerate() {

@@ -3,6 +3,7 @@ ghost use Rattle.std.specs.Prelude.{◌≡◌, ℕ, ◌∷◌, [], ◌<◌, ◌�
 ghost use Rattle.ja_hier.specs.Index.{AreForks, IsStraight};
 ghost use Rattle.ja_supertypes.specs.Faults.{AreClasses};
 ghost use Rattle.ja_supertypes.specs.Supertypes.{supertypes_of};
+ghost use Rattle.ja_base.specs.Limit.{max_numbered};
 
 use ja_base::{Memory, Numbers, Seq};
 use ja_supertypes::Classes;
@@ -10,7 +11,7 @@ use std::alloc::Global;
 
 /// For each class the first at or above it that has no or several direct supertypes.
 pub fn forks(alloc: Global, classes: &Classes) -> Result<Numbers, Memory>
-    requires few { length classes.now ≤ 2 ^ 26 }
+    requires few { length classes.now ≤ max_numbered }
     requires valid { AreClasses classes.now }
     ensures { IfOk result (AreForks classes.now) }
 {
@@ -23,7 +24,7 @@ pub fn forks(alloc: Global, classes: &Classes) -> Result<Numbers, Memory>
 }
 
 fn fork_of(classes: &Classes, class: u32) -> u32
-    requires few { length classes.now ≤ 2 ^ 26 }
+    requires few { length classes.now ≤ max_numbered }
     requires valid { AreClasses classes.now }
     requires inside { class < length classes.now }
     ensures { IsStraight classes.now class result }
@@ -37,7 +38,7 @@ fn fork_of(classes: &Classes, class: u32) -> u32
 
 /// The direct supertype of a class that has just one.
 fn only_supertype(classes: &Classes, class: u32) -> Option<u32>
-    requires few { length classes.now ≤ 2 ^ 26 }
+    requires few { length classes.now ≤ max_numbered }
     requires inside { class < length classes.now }
     ensures { IfSome result (λ d. supertypes_of classes.now class ≡ d ∷ []) }
 {

@@ -9,6 +9,7 @@ ghost use Rattle.ja_supertypes.specs.Faults.{AreClasses};
 ghost use Rattle.ja_supertypes.specs.LibraryTypes.{AreLibraryTypes, IsNearest};
 ghost use Rattle.ja_supertypes.specs.Supertypes as supertypes;
 ghost use Rattle.ja_supertypes.specs.Supertypes.{superclass_of, AreSupertypes, IsAtOrAbove, IsSuperclass};
+ghost use Rattle.ja_base.specs.Limit.{max_numbered};
 
 use crate::crossing::check_packages;
 use crate::forks::forks;
@@ -121,7 +122,7 @@ fn joined(ways: Ways, fields: Members, methods: Members) -> Tables
 
 /// The classes of these heads, and the forks of their ways up.
 fn ways_of(alloc: Global, heads: &[ClassHead]) -> Result<Ways, HierFault>
-    requires { length heads.now ≤ 2 ^ 26 }
+    requires { length heads.now ≤ max_numbered }
     ensures heads { IfOk result (λ ways. ways.classes ≡ heads.now) }
     ensures valid { OnOk result (AreClasses heads.now) }
     ensures forks { IfOk result (λ ways. AreForks heads.now ways.forks) }
@@ -135,7 +136,7 @@ fn ways_of(alloc: Global, heads: &[ClassHead]) -> Result<Ways, HierFault>
 
 /// The classes with the forks of their ways up.
 fn with_forks(alloc: Global, classes: Classes) -> Result<Ways, HierFault>
-    requires few { length classes ≤ 2 ^ 26 }
+    requires few { length classes ≤ max_numbered }
     requires valid { AreClasses classes }
     ensures classes { IfOk result (λ ways. ways.classes ≡ classes) }
     ensures forks { IfOk result (λ ways. AreForks classes ways.forks) }
@@ -149,7 +150,7 @@ fn with_forks(alloc: Global, classes: Classes) -> Result<Ways, HierFault>
 
 /// The members of a kind that the classes of these heads declare.
 fn members_of(alloc: Global, heads: &[ClassHead], member: Member) -> Result<Members, Memory>
-    requires { sum_by (count_of member) heads.now ≤ 2 ^ 26 }
+    requires { sum_by (count_of member) heads.now ≤ max_numbered }
     ensures starts { IfOk result (λ members. AreStarts heads.now (count_of member) members.starts) }
     ensures classes { IfOk result (λ members. IsIndexOf member heads.now members.by_name.classes) }
     ensures places { IfOk result (λ members. ArePlaces member heads.now members.by_name.places) }

@@ -1,6 +1,7 @@
 ghost use Rattle.std.specs.Prelude.{◌≡◌, ◌≤◌, ◌^◌, ◌↔◌, sum_by, IfOk, IsTrue};
 ghost use Rattle.ja_hier.specs.Index.{AreStarts};
 ghost use Rattle.ja_hier.specs.Members.{count_of, IsNumbered};
+ghost use Rattle.ja_base.specs.Limit.{max_numbered};
 
 use ja_base::{Memory, Numbers, Seq};
 use ja_ir::ClassHead;
@@ -25,7 +26,7 @@ pub fn count_of(member: Member, head: &ClassHead) -> u64
 
 /// Whether the classes declare at most 67,108,864 members of a kind.
 fn are_few(heads: &[ClassHead], member: Member) -> bool
-    ensures { IsTrue result ↔ (sum_by (count_of member) heads.now ≤ 2 ^ 26) }
+    ensures { IsTrue result ↔ (sum_by (count_of member) heads.now ≤ max_numbered) }
 {
     let mut left: u64 = 67_108_864;
     for head in heads {
@@ -48,7 +49,7 @@ pub fn is_numbered(heads: &[ClassHead]) -> bool
 
 /// For each class the number of the members of a kind that the classes before it declare.
 pub fn starts(alloc: Global, heads: &[ClassHead], member: Member) -> Result<Numbers, Memory>
-    requires { sum_by (count_of member) heads.now ≤ 2 ^ 26 }
+    requires { sum_by (count_of member) heads.now ≤ max_numbered }
     ensures { IfOk result (AreStarts heads.now (count_of member)) }
 {
     let mut starts = Seq::new(alloc);

@@ -1,6 +1,6 @@
 -- What each program keeps.
 use Rattle.std.specs.Prelude.{◌≡◌, ℕ, ◌+◌, ◌<◌, ◌≤◌, ◌^◌, ◌⊎◌, ◌↔◌, true, false, List, [], ◌∷◌, Option, Some, None, All, codes, length, slice_get, sum_by}
-use Rattle.ja_base.specs.Limit.{max_frame_values}
+use Rattle.ja_base.specs.Limit.{max_categories, max_frame_values, max_numbered}
 use Rattle.ja_base.specs.declared.java_type.JavaType.{JavaType}
 use Rattle.ja_base.specs.Descriptor.{AreTypes, IsField, IsMethod, words_of_all}
 use Rattle.ja_ir.specs.declared.program.Parts.{Parts}
@@ -175,10 +175,10 @@ instruction_count p = sum_by (λ (method : Method). length method.code) p.method
 
 -- 67,108,864 classes, fields, methods and instructions at most, and no more sites than instructions
 pub record IsSmall (p : Parts) : Type 0 where
-  pub classes : length p.classes ≤ 2 ^ 26
-  pub fields : length p.fields ≤ 2 ^ 26
-  pub methods : length p.methods ≤ 2 ^ 26
-  pub instructions : instruction_count p ≤ 2 ^ 26
+  pub classes : length p.classes ≤ max_numbered
+  pub fields : length p.fields ≤ max_numbered
+  pub methods : length p.methods ≤ max_numbered
+  pub instructions : instruction_count p ≤ max_numbered
   pub sites : length p.sites ≤ instruction_count p
 
 -- instruction j is reached with so many values on the stack
@@ -215,7 +215,7 @@ pub record IsWhole (p : Parts) : Type 0 where
   -- each class initialiser that a class names is one
   pub inits : All (λ class. All (λ m. NamesInitializer p m.0) class.inits) p.classes
   -- there are few categories of marks
-  pub categories : length p.categories ≤ 8
+  pub categories : length p.categories ≤ max_categories
   -- each entry can be called
   pub entries : All (IsWholeEntry p) p.entries
   -- descriptors are descriptors, and agree with what they describe

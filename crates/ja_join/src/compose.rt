@@ -8,6 +8,7 @@ ghost use Rattle.ja_bdd.specs.Room.{LacksRoomUnder};
 ghost use Rattle.ja_bdd.specs.Workers.{IsWorkerOf, seen};
 ghost use Rattle.ja_bdd.specs.Variables.{partner_of};
 ghost use Rattle.ja_join.specs.Composed.{others_of, present_alone, entry_and_present, present_and_next, LooksIn, earlier, composed};
+ghost use Rattle.ja_base.specs.Limit.{last_variable};
 
 use ja_bdd::{Copies, Renaming, Worker};
 use ja_node_core::Aim;
@@ -56,7 +57,7 @@ const PRESENT: Copies = Copies {
 
 /// The renaming in which each next variable becomes the one at present.
 fn next_as_present() -> Renaming
-    ensures { (v : ℕ) → v ≤ 4094 → partner_of result v ≡ earlier v }
+    ensures { (v : ℕ) → v ≤ last_variable → partner_of result v ≡ earlier v }
 {
     let mut renaming = Renaming::new();
     for place in 0..1024 {

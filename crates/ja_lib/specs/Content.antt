@@ -4,6 +4,7 @@ use Rattle.ja_ir.specs.declared.row.LibRow.{LibRow}
 use Rattle.ja_ir.specs.Categories.{count_of_names}
 use Rattle.ja_lib.specs.declared.row.TableRow.{TableRow}
 use Rattle.ja_lib.specs.declared.entry.EntryRow.{EntryRow}
+use Rattle.ja_base.specs.Limit.{max_categories}
 
 -- the names of a table's categories of marks, its rows and its entries, each in order; there are no names where there is one category, which
 -- has none
@@ -23,6 +24,6 @@ pub record IsMeaningAbout (names : List (List ℕ)) (meaning : LibRow) : Type 0 
 
 -- a table has few categories, and its rows and entries are about them
 pub record IsCategorized (content : Content) : Type 0 where
-  pub few : length content.categories ≤ 8
+  pub few : length content.categories ≤ max_categories
   pub rows : All (λ row. IsMeaningAbout content.categories row.meaning) content.rows
   pub entries : All (λ entry. length entry.marks ≡ count_of_names content.categories) content.entries

@@ -17,6 +17,7 @@ use Rattle.ja_lib.specs.declared.entry.EntryRow.{EntryRow}
 use Rattle.ja_lib.specs.declared.fault.TableFault.{TableFault}
 use Rattle.ja_lib.specs.declared.fault.TableFault.TheVariants.{Text, UnknownKey, BadCategory, BadRow, BadEntry, Memory}
 use Rattle.ja_lib.specs.Content.{Content, all_marks}
+use Rattle.ja_base.specs.Limit.{max_categories}
 
 -- the bytes are a text in TOML of this document
 abbrev pub IsDocument : List ℕ → Members → Type 0
@@ -164,7 +165,7 @@ categories_in items = read_items new_category [] items
 
 -- the list, if it has 1 to 8 items
 abbrev pub if_few : List (List ℕ) → Option (List (List ℕ))
-if_few names = if nat_le 1 (length names) && nat_le (length names) 8 then Some names else None
+if_few names = if nat_le 1 (length names) && nat_le (length names) max_categories then Some names else None
 
 -- the categories at a key: 1 to 8 distinct names, and none where it is missing
 abbrev pub categories_at : Option Data → Option (List (List ℕ))

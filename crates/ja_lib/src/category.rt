@@ -7,18 +7,16 @@ ghost use Rattle.ja_ir.specs.Categories.{count_of_names};
 ghost use Rattle.ja_lib.specs.Content.{all_marks};
 ghost use Rattle.ja_lib.specs.File.{categories_at, categories_in, category_at, chosen_in, is_category, is_category_byte, is_name_length, marks_at, marks_of, new_category, new_mark, place_among};
 ghost use Rattle.ja_lib.specs.Reading.{Gives, IsCategoryFault, seen_of};
+ghost use Rattle.ja_base.specs.Limit.{max_categories};
 
 use crate::TableFault;
 use crate::part::PartFault;
-use ja_base::{Flags, Memory, Name, Names, Seq};
+use ja_base::{Flags, MAX_CATEGORIES, Memory, Name, Names, Seq};
 use std::alloc::Global;
 use toml::Value;
 
 /// How many bytes the name of a category has at most.
 const MAX_NAME: usize = 32;
-
-/// How many categories a table names at most.
-const MAX_CATEGORIES: u64 = 8;
 
 /// The number of categories where these are their names: one where there are none.
 fn count_of_names(categories: &[Name]) -> usize
@@ -110,7 +108,7 @@ fn items_of<'a>(value: &'a Value) -> Option<&'a [Value]>
 /// The names of the categories at a key: 1 to 8 distinct ones, and none where it is missing.
 fn categories_at(alloc: Global, value: Option<&Value>) -> Result<Names, PartFault>
     ensures names { Gives (categories_at (seen_of value.entry)) result }
-    ensures few { IfOk result (λ names. length names ≤ 8) }
+    ensures few { IfOk result (λ names. length names ≤ max_categories) }
 {
     let Some(value) = value else {
         return Ok(Seq::new(alloc));
@@ -129,7 +127,7 @@ fn categories_at(alloc: Global, value: Option<&Value>) -> Result<Names, PartFaul
 /// The categories of the document, by the value at their key.
 pub(crate) fn categories_of(alloc: Global, value: Option<&Value>) -> Result<Names, TableFault>
     ensures names { IfOk result (λ names. categories_at (seen_of value.entry) ≡ Some names) }
-    ensures few { IfOk result (λ names. length names ≤ 8) }
+    ensures few { IfOk result (λ names. length names ≤ max_categories) }
     ensures fault { IfErr result (IsCategoryFault (seen_of value.entry)) }
 {
     match categories_at(alloc, value) {
@@ -208,7 +206,7 @@ fn place_among(categories: &[Name], text: &[u8]) -> Option<usize>
 
 /// The category of a name.
 fn category_of(categories: &[Name], text: &str) -> Option<u32>
-    requires { length categories.now ≤ 8 }
+    requires { length categories.now ≤ max_categories }
     ensures { result ≡ place_among categories.now text.now }
 {
     match place_among(categories, text.as_bytes()) {
@@ -219,7 +217,7 @@ fn category_of(categories: &[Name], text: &str) -> Option<u32>
 
 /// The category at a key, the first where it is missing.
 pub(crate) fn category_at(categories: &[Name], value: Option<&Value>) -> Option<u32>
-    requires { length categories.now ≤ 8 }
+    requires { length categories.now ≤ max_categories }
     ensures { result ≡ category_at categories.now (seen_of value.entry) }
 {
     match value {

@@ -4,6 +4,7 @@ ghost use Rattle.toml.specs.Data.{Members, get_member};
 ghost use Rattle.toml.specs.View.{table_view, items_view};
 ghost use Rattle.ja_lib.specs.File.{IsDocument, IsTableFile, IsFaultOf, SpellsContent, IsFaultIn, tables_in, tables_at, SpellAll, SpellsRow, SpellsEntry};
 ghost use Rattle.ja_lib.specs.Reading.{AreTables, IsRowFault, IsEntryFault};
+ghost use Rattle.ja_base.specs.Limit.{max_categories};
 
 use crate::category::categories_of;
 use crate::keys::{are_keys_among, value_at};
@@ -94,7 +95,7 @@ fn are_tables(array: &[Value]) -> bool
 }
 
 fn rows_of(alloc: Global, categories: &[Name], values: &[Value]) -> Result<TableRows, TableFault>
-    requires { length categories.now ≤ 8 }
+    requires { length categories.now ≤ max_categories }
     ensures rows { IfOk result (λ rows. (tables : List Members) → AreTables values.now tables → SpellAll (SpellsRow categories.now) tables rows) }
     ensures fault { IfErr result (λ fault. (tables : List Members) → AreTables values.now tables → IsRowFault categories.now tables fault) }
 {
@@ -106,7 +107,7 @@ fn rows_of(alloc: Global, categories: &[Name], values: &[Value]) -> Result<Table
 }
 
 fn entries_of(alloc: Global, categories: &[Name], values: &[Value]) -> Result<EntryRows, TableFault>
-    requires { length categories.now ≤ 8 }
+    requires { length categories.now ≤ max_categories }
     ensures entries { IfOk result (λ entries. (tables : List Members) → AreTables values.now tables → SpellAll (SpellsEntry categories.now) tables entries) }
     ensures fault { IfErr result (λ fault. (tables : List Members) → AreTables values.now tables → IsEntryFault categories.now tables fault) }
 {

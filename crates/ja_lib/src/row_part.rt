@@ -3,6 +3,7 @@ ghost use Rattle.std.specs.Prelude.{◌≡◌, ◌≤◌, length};
 ghost use Rattle.toml.specs.View.{table_view};
 ghost use Rattle.ja_lib.specs.File.{SpellsMeaning, SpellsRow};
 ghost use Rattle.ja_lib.specs.Reading.{Finds};
+ghost use Rattle.ja_base.specs.Limit.{max_categories};
 
 use crate::TableRow;
 use crate::category::{category_at, marks_at};
@@ -17,7 +18,7 @@ use ja_ir::LibRow;
 use std::alloc::Global;
 
 fn meaning(alloc: Global, categories: &[Name], members: &toml::Table) -> Result<LibRow, PartFault>
-    requires { length categories.now ≤ 8 }
+    requires { length categories.now ≤ max_categories }
     ensures { Finds (SpellsMeaning categories.now (table_view members.now)) result }
 {
     let flow = flow_at(value_at(members, "flow")).ok_or(PartFault::Wrong)?;

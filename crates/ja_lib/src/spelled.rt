@@ -3,6 +3,7 @@ ghost use Rattle.toml.specs.View.{table_view};
 ghost use Rattle.toml.specs.Data.{Members};
 ghost use Rattle.std.specs.Prelude.{◌≤◌, ℕ, List, length};
 ghost use Rattle.ja_lib.specs.Reading.{Finds, FindsAll, AreTables};
+ghost use Rattle.ja_base.specs.Limit.{max_categories};
 
 use crate::part::PartFault;
 use ja_base::{Memory, Name, Seq};
@@ -15,7 +16,7 @@ pub(crate) trait Spelled {
 
     /// What the table spells, where these are the categories of marks.
     fn read(alloc: Global, categories: &[Name], members: &toml::Table) -> Result<Self, PartFault>
-        requires { length categories.now ≤ 8 }
+        requires { length categories.now ≤ max_categories }
         ensures { Finds (spells categories.now (table_view members.now)) result };
 }
 
@@ -45,7 +46,7 @@ pub(crate) fn read_all<T: Spelled + Drop>(
     categories: &[Name],
     values: &[Value],
 ) -> Result<Seq<T>, PlacedFault>
-    requires { length categories.now ≤ 8 }
+    requires { length categories.now ≤ max_categories }
     ensures { (tables : List Members) → AreTables values.now tables → FindsAll (T.spells categories.now) tables result }
 {
     let mut things = Seq::new(alloc);

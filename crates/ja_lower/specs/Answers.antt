@@ -14,11 +14,12 @@ use Rattle.ja_lower.specs.declared.answer.Answer.{Answer}
 use Rattle.ja_lower.specs.Places.{IsPlace}
 use Rattle.ja_lower.specs.Program.{heads_of}
 use Rattle.ja_lower.specs.Steps.{AreUpTo}
+use Rattle.ja_base.specs.Limit.{max_numbered}
 
 -- the method of this place can be lowered or refused, where these are the heads of the classes
 pub record CanAnswer (heads : List ClassHead) (classes : List ClassSpelled) (place : Place) : Type 0 where
   pub heads_are : heads ≡ heads_of classes
-  pub few : length classes ≤ 2 ^ 26
+  pub few : length classes ≤ max_numbered
   pub place_is : IsPlace classes place
 
 -- the method with its sink calls, or its first refusal, or want of memory

@@ -23,6 +23,7 @@ use Rattle.ja_methods.specs.Sites.{AreSitesOf}
 use Rattle.ja_lower.specs.declared.fault.LowerFault.{LowerFault}
 use Rattle.ja_lower.specs.declared.fault.LowerFault.TheVariants.{Refused, Memory}
 use Rattle.ja_lower.specs.Refusals.{hier_refusal, method_refusal}
+use Rattle.ja_base.specs.Limit.{max_numbered}
 
 -- what the class files say apart from code
 abbrev pub heads_of : List ClassSpelled → List ClassHead
@@ -40,7 +41,7 @@ instruction_count classes = sum_by (λ (class : ClassSpelled). sum_by (λ (body 
 -- at most 67,108,864 classes, fields, methods and instructions
 pub record AreFew (classes : List ClassSpelled) : Type 0 where
   pub numbered : IsNumbered (heads_of classes)
-  pub instructions : instruction_count classes ≤ 2 ^ 26
+  pub instructions : instruction_count classes ≤ max_numbered
 
 -- the methods of the classes before class c and the first k of class c, in the order of the classes and, in a class, as declared
 pub data MethodsUpTo (heads : List ClassHead) (table : Content) (classes : List ClassSpelled) : (c k : ℕ) → List Method → Type 0 where

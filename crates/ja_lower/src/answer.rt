@@ -2,6 +2,7 @@ ghost use Rattle.std.specs.Prelude.{◌≡◌, ◌≤◌, ◌^◌, zero, IfOk, l
 ghost use Rattle.ja_lower.specs.Places.{PlacesFrom};
 ghost use Rattle.ja_lower.specs.Program.{heads_of};
 ghost use Rattle.ja_lower.specs.Answers.{AnswersFrom, CanAnswer, IsAnswerAt};
+ghost use Rattle.ja_base.specs.Limit.{max_numbered};
 
 use crate::place::Place;
 use ja_base::{ClassId, Memory, Seq};
@@ -33,7 +34,7 @@ pub(crate) fn answers_of<R: Threads + Sync>(
     least: usize,
 ) -> Result<Vec<Answer>, Memory>
     requires heads { hier.now ≡ heads_of classes.now }
-    requires few { length classes.now ≤ 2 ^ 26 }
+    requires few { length classes.now ≤ max_numbered }
     requires places { PlacesFrom classes.now zero zero places.now }
     ensures { IfOk result (λ answers. AnswersFrom table.now classes.now zero zero answers.items) }
 {

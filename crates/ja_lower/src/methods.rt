@@ -5,6 +5,7 @@ ghost use Rattle.ja_hier.specs.Members.{count_of};
 ghost use Rattle.ja_lower.specs.Answers.{IsAnswer};
 ghost use Rattle.ja_lower.specs.Program.{AreMethods, AreSites, IsLowerFault, heads_of, site_of};
 ghost use Rattle.ja_lower.specs.Steps.{AreUpTo};
+ghost use Rattle.ja_base.specs.Limit.{max_numbered};
 
 use crate::LowerFault;
 use crate::answer::{Answer, answers_of};
@@ -40,8 +41,8 @@ pub(crate) fn code_of<R: Threads + Sync>(
     requires heads { hier.now ≡ heads_of classes.now }
     requires valid { IsHierarchy (heads_of classes.now) }
     requires files { length files.now ≡ length classes.now }
-    requires few { length classes.now ≤ 2 ^ 26 }
-    requires numbered { sum_by (count_of OfMethods) (heads_of classes.now) ≤ 2 ^ 26 }
+    requires few { length classes.now ≤ max_numbered }
+    requires numbered { sum_by (count_of OfMethods) (heads_of classes.now) ≤ max_numbered }
     ensures methods { IfOk result (λ code. AreMethods (heads_of classes.now) table.now classes.now code.methods) }
     ensures sites { IfOk result (λ code. AreSites (heads_of classes.now) code.methods code.sites) }
     ensures refused { IfErr result (IsLowerFault files.now classes.now) }
@@ -69,7 +70,7 @@ fn add_answer(
 ) -> Result<(), LowerFault>
     requires valid { IsHierarchy (heads_of classes.now) }
     requires files { length files.now ≡ length classes.now }
-    requires numbered { sum_by (count_of OfMethods) (heads_of classes.now) ≤ 2 ^ 26 }
+    requires numbered { sum_by (count_of OfMethods) (heads_of classes.now) ≤ max_numbered }
     requires answer { IsAnswer table.now classes.now answer }
     requires so_far { AreUpTo table.now classes.now answer.place.class answer.place.method code.old.methods code.old.sites }
     ensures added { OnOk result (AreUpTo table.now classes.now answer.place.class (suc answer.place.method) code.new.methods code.new.sites) }

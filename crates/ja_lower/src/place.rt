@@ -4,6 +4,7 @@ ghost use Rattle.ja_hier.specs.declared.starts.Member.TheVariants.{Method as OfM
 ghost use Rattle.ja_hier.specs.Members.{count_of};
 ghost use Rattle.ja_lower.specs.Program.{heads_of};
 ghost use Rattle.ja_lower.specs.Places.{PlacesFrom, PlacesUpTo};
+ghost use Rattle.ja_base.specs.Limit.{max_numbered};
 
 use ja_base::{Memory, Seq};
 use ja_class::Class;
@@ -18,8 +19,8 @@ pub(crate) struct Place {
 
 /// The methods of the classes, in the order of the classes and, in one class, as declared.
 pub(crate) fn places_of(alloc: Global, classes: &[Class]) -> Result<Seq<Place>, Memory>
-    requires few { length classes.now ≤ 2 ^ 26 }
-    requires numbered { sum_by (count_of OfMethods) (heads_of classes.now) ≤ 2 ^ 26 }
+    requires few { length classes.now ≤ max_numbered }
+    requires numbered { sum_by (count_of OfMethods) (heads_of classes.now) ≤ max_numbered }
     ensures { IfOk result (PlacesFrom classes.now zero zero) }
 {
     let mut places = Seq::new(alloc);
@@ -31,7 +32,7 @@ pub(crate) fn places_of(alloc: Global, classes: &[Class]) -> Result<Seq<Place>, 
 
 /// Adds the methods of a class.
 fn add_places(places: &mut Seq<Place>, classes: &[Class], c: u32) -> Result<(), Memory>
-    requires numbered { sum_by (count_of OfMethods) (heads_of classes.now) ≤ 2 ^ 26 }
+    requires numbered { sum_by (count_of OfMethods) (heads_of classes.now) ≤ max_numbered }
     requires inside { c < length classes.now }
     requires so_far { PlacesUpTo classes.now c zero places.old }
     ensures { OnOk result (PlacesUpTo classes.now (suc c) zero places.new) }

@@ -11,6 +11,7 @@ ghost use Rattle.ja_hier.specs.Members.{IsNumbered, count_of};
 ghost use Rattle.ja_lib.specs.Content.{IsCategorized};
 ghost use Rattle.ja_lower.specs.Program.{AreFew, IsLowerFault, IsProgramOf, IsRefusedWhole, heads_of};
 ghost use Rattle.ja_lower.specs.declared.fault.LowerFault.TheVariants as faults;
+ghost use Rattle.ja_base.specs.Limit.{max_numbered};
 
 use crate::LowerFault;
 use crate::law::law_one_program;
@@ -133,8 +134,8 @@ struct Declared {
 /// What the program of a hierarchy and a table says apart from code.
 fn declared_of(alloc: Global, names: &Names, hier: &Hier, t: &Table) -> Result<Declared, Memory>
     requires files { length names.now ≡ length hier.now }
-    requires classes { length hier.now ≤ 2 ^ 26 }
-    requires methods { sum_by (count_of OfMethods) hier.now ≤ 2 ^ 26 }
+    requires classes { length hier.now ≤ max_numbered }
+    requires methods { sum_by (count_of OfMethods) hier.now ≤ max_numbered }
     ensures infos { IfOk result (λ declared. AreClassInfos hier.now names.now declared.infos) }
     ensures fields { IfOk result (λ declared. AreFields hier.now declared.fields) }
     ensures entries { IfOk result (λ declared. AreEntries hier.now t.now declared.entries) }

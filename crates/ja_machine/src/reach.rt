@@ -5,6 +5,7 @@ ghost use Rattle.ja_machine.specs.Reach as reach;
 ghost use Rattle.ja_machine.specs.Reach.{IsClosed, IsInside, IsTainted, Reaches};
 ghost use Rattle.ja_machine.specs.InnerSearch as search;
 ghost use Rattle.ja_machine.specs.InnerSearch.{meets_fields, meets_object, meets_place, meets_places, meets_value};
+ghost use Rattle.ja_base.specs.Limit.{max_categories};
 
 use crate::{FieldValue, Heap, Object, Value};
 use ja_base::Memory;
@@ -28,7 +29,7 @@ pub fn reaches(alloc: Global, h: &Heap, a: u64, b: u64) -> Result<bool, Memory>
 pub fn tainted(alloc: Global, h: &Heap, v: &Value, c: u32) -> Result<bool, Memory>
     requires closed { IsClosed h.now }
     requires inside { IsInside h.now v.now }
-    requires category { c < 8 }
+    requires category { c < max_categories }
     ensures { IfOk result (λ answer. IsTrue answer ↔ IsTainted c h.now v.now) }
 {
     match v {
@@ -43,7 +44,7 @@ pub fn tainted(alloc: Global, h: &Heap, v: &Value, c: u32) -> Result<bool, Memor
 
 /// Whether some object has a mark of category `c` whose flag is set.
 fn is_any_marked(objects: &[Object], flags: &[bool], c: u32) -> bool
-    requires { c < 8 }
+    requires { c < max_categories }
     ensures { result ≡ search.is_any_marked c objects.now flags.now }
 {
     objects
@@ -54,7 +55,7 @@ fn is_any_marked(objects: &[Object], flags: &[bool], c: u32) -> bool
 
 /// Whether an object has a mark of category `c`, or a primitive with one in a field.
 fn is_marked(object: &Object, c: u32) -> bool
-    requires { c < 8 }
+    requires { c < max_categories }
     ensures { result ≡ reach.is_marked c object.now }
 {
     let in_field = has_marked_field(object.fields.as_slice(), c);
@@ -63,7 +64,7 @@ fn is_marked(object: &Object, c: u32) -> bool
 
 /// Whether one of the fields has a primitive with a mark of category `c`.
 fn has_marked_field(fields: &[FieldValue], c: u32) -> bool
-    requires { c < 8 }
+    requires { c < max_categories }
     ensures { result ≡ list_any (λ field. marks.has (reach.mark_of field.value) c) fields.now }
 {
     fields.iter().any(|field| has(mark_of(&field.value), c))
@@ -81,7 +82,7 @@ fn mark_of(value: &Value) -> u8
 
 /// Whether category `c` is among these marks.
 fn has(mark: u8, c: u32) -> bool
-    requires { c < 8 }
+    requires { c < max_categories }
     ensures { result ≡ marks.has mark c }
 {
     (mark >> c) & 1 == 1

@@ -6,6 +6,7 @@ ghost use Rattle.ja_operations.specs.Profile.{IsProfiled};
 ghost use Rattle.ja_methods.specs.declared.fault.MethodFault.TheVariants.{Memory};
 ghost use Rattle.ja_methods.specs.Method.{IsInstrOf, AreInstrsOf, height_of};
 ghost use Rattle.ja_methods.specs.Refusal.{IsUnrefused, IsRefusalOf, IsFirstRefusal};
+ghost use Rattle.ja_base.specs.Limit.{max_numbered};
 
 use crate::fault::{MethodFault, instr_refusal};
 use crate::next::next_of;
@@ -47,7 +48,7 @@ fn instr_of(
     before: Option<&KindState>,
 ) -> Result<Instr, MethodFault>
     requires class { scene.now.class.0 < length scene.now.hier.now }
-    requires classes { length scene.now.hier.now ≤ 2 ^ 26 }
+    requires classes { length scene.now.hier.now ≤ max_numbered }
     requires order { IsNonDecreasingBy (λ (i : RawInstr). i.pc) instrs.now }
     requires profiled { All (IsProfiled scene.now.pool.now) instrs.now }
     requires there { k < length instrs.now }
@@ -91,7 +92,7 @@ pub fn instrs_of(
     kinds: &Kinds,
 ) -> Result<Instrs, MethodFault>
     requires class { scene.now.class.0 < length scene.now.hier.now }
-    requires classes { length scene.now.hier.now ≤ 2 ^ 26 }
+    requires classes { length scene.now.hier.now ≤ max_numbered }
     requires order { IsNonDecreasingBy (λ (i : RawInstr). i.pc) instrs.now }
     requires profiled { All (IsProfiled scene.now.pool.now) instrs.now }
     requires few { length instrs.now ≤ 65535 }

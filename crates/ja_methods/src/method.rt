@@ -8,6 +8,7 @@ ghost use Rattle.ja_methods.specs.declared.fault.MethodFault.TheVariants as faul
 ghost use Rattle.ja_methods.specs.Method.{is_native, IsCodeOf, HasInstrs, HasContent, IsMethodOf};
 ghost use Rattle.ja_methods.specs.Refusal.{IsCodeRefused, IsRefused};
 ghost use Rattle.ja_methods.specs.Sites.{AreSitesOf};
+ghost use Rattle.ja_base.specs.Limit.{max_numbered};
 
 use crate::fault::{MethodFault, kind_refusal};
 use crate::handler::handlers_of;
@@ -57,7 +58,7 @@ fn coded(
     code: &Code,
 ) -> Result<Content, MethodFault>
     requires class { c.0 < length hier.now }
-    requires classes { length hier.now ≤ 2 ^ 26 }
+    requires classes { length hier.now ≤ max_numbered }
     requires code { IsCodeOf class.now m code.now }
     ensures ok { IfOk result (λ x. HasInstrs hier.now table.now class.now c.0 m code.now x.code x.handlers) }
     ensures refused { IfErr result (λ f. (f ≡ faults.Memory) ⊎ IsCodeRefused hier.now class.now c.0 m f) }
@@ -92,7 +93,7 @@ fn content_of(
     m: u32,
 ) -> Result<Content, MethodFault>
     requires class { c.0 < length hier.now }
-    requires classes { length hier.now ≤ 2 ^ 26 }
+    requires classes { length hier.now ≤ max_numbered }
     requires method { m < length class.now.methods }
     ensures ok { (body : ClassMethod) → slice_get class.now.methods m ≡ Some body →
         IfOk result (λ x. HasContent hier.now table.now class.now c.0 m body.code x.code x.handlers) }
@@ -127,7 +128,7 @@ fn method_or_refusal(
     m: u32,
 ) -> Result<Lowered, MethodFault>
     requires class { c.0 < length hier.now }
-    requires classes { length hier.now ≤ 2 ^ 26 }
+    requires classes { length hier.now ≤ max_numbered }
     requires method { m < length class.now.head.methods }
     ensures ok { IfOk result (λ l. IsMethodOf hier.now table.now class.now c.0 m l.method) }
     ensures sites { IfOk result (λ l. AreSitesOf hier.now l.method.code l.sites) }
@@ -174,7 +175,7 @@ pub fn lower_method(
     m: u32,
 ) -> Result<Lowered, MethodFault>
     requires class { c.0 < length hier.now }
-    requires classes { length hier.now ≤ 2 ^ 26 }
+    requires classes { length hier.now ≤ max_numbered }
     requires method { m < length class.now.head.methods }
     // What is answered is the method.
     ensures ok { IfOk result (λ l. IsMethodOf hier.now table.now class.now c.0 m l.method) }

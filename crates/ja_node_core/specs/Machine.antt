@@ -3,6 +3,7 @@ use Rattle.std.specs.Prelude.{◌≡◌, ◌≢◌, ℕ, ◌<◌, ◌≤◌, max
 use Rattle.ja_node_core.specs.Tree.{Tree, branch}
 use Rattle.ja_node_core.specs.Word.{word_of, var_of, low_of, high_of, places, place}
 use Rattle.ja_node_core.specs.Node.{Words, Means, IsOther}
+use Rattle.ja_base.specs.Limit.{last_variable}
 
 -- what was seen: places, each with the word that stood there
 abbrev pub Known : Type 0
@@ -52,7 +53,7 @@ pub record IsKnownChild (at : Words) (var child : ℕ) (t : Tree) : Type 0 where
 -- what is asked of a claim of w at the i-th place of its path, by what the actor knows
 pub record MayClaim (n : ℕ) (aim : Tree → Type 0) (at : Words) (w i : ℕ) : Type 0 where
   pub within : i < places n
-  pub small : var_of w ≤ 4094
+  pub small : var_of w ≤ last_variable
   pub packed : w ≡ word_of (var_of w) (low_of w) (high_of w)
   pub apart : low_of w ≢ high_of w
   pub low : (t : Tree) × IsKnownChild at (var_of w) (low_of w) t

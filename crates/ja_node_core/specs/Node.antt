@@ -2,6 +2,7 @@
 use Rattle.std.specs.Prelude.{◌≡◌, ◌≢◌, ℕ, ◌<◌, ◌≤◌, Bool, true, false}
 use Rattle.ja_node_core.specs.Tree.{Tree, leaf, branch}
 use Rattle.ja_node_core.specs.Word.{word_of, var_of, low_of, high_of, places, place}
+use Rattle.ja_base.specs.Limit.{last_variable}
 
 -- the word at each place, or 0
 abbrev pub Words : Type 0
@@ -31,7 +32,7 @@ IsChild at var child = 1 < child → (0 < at child) × (var < var_of (at child))
 
 -- the word is that of a node over children that stand
 pub record IsNode (at : Words) (w : ℕ) : Type 0 where
-  pub small : var_of w ≤ 4094
+  pub small : var_of w ≤ last_variable
   pub packed : w ≡ word_of (var_of w) (low_of w) (high_of w)
   pub apart : low_of w ≢ high_of w
   pub low : IsChild at (var_of w) (low_of w)

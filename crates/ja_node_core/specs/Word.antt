@@ -1,5 +1,6 @@
 -- The word of a node, and the places of a table where it may stand.
 use Rattle.std.specs.Prelude.{ℕ, ◌+◌, ◌-◌, ◌*◌, ◌/◌, ◌%◌, ◌^◌, min, nat_le, if◌then◌else◌}
+use Rattle.ja_node_core.specs.declared.path.TheConstants.{MAX_PLACES}
 
 -- the word of a variable and two children: 12 bits for the variable plus 1, 26 for the child where it is false, 26 for the child where it is true
 unfoldable pub word_of : ℕ → ℕ → ℕ → ℕ
@@ -17,7 +18,7 @@ high_of w = w % 2 ^ 26
 
 -- how many places a word's path has in a table of n words, of which the first two are never used
 unfoldable pub places : ℕ → ℕ
-places n = min (n - 2) 4096
+places n = min (n - 2) MAX_PLACES
 
 -- what a word is multiplied by in the hash, in a table of n words: nothing up to 65,536 words, and in a larger table a prime near 2^32 divided by the golden ratio, which spreads words that differ in a few bits alone
 abbrev pub factor : ℕ → ℕ

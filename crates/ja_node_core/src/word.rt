@@ -1,5 +1,6 @@
 ghost use Rattle.std.specs.Prelude.{◌≡◌, ◌^◌, ◌<◌, ◌≤◌};
 ghost use Rattle.ja_node_core.specs.Word.{word_of, var_of, low_of, high_of};
+ghost use Rattle.ja_base.specs.Limit.{last_variable};
 
 /// The bits of a child in a word.
 const NODE_BITS: u32 = 26;
@@ -29,7 +30,7 @@ pub struct Parts {
     pub var: u32,
     pub lo: Node,
     pub hi: Node,
-    pub ghost small: { var ≤ 4094 },
+    pub ghost small: { var ≤ last_variable },
 }
 
 impl Parts {
@@ -44,7 +45,7 @@ impl Parts {
 
     /// The parts of a node's word.
     pub fn of_word(word: u64) -> Parts
-        requires { (2 ^ 52 ≤ word) × (word < 2 ^ 64) × (var_of word ≤ 4094) }
+        requires { (2 ^ 52 ≤ word) × (word < 2 ^ 64) × (var_of word ≤ last_variable) }
         ensures { (result.var ≡ var_of word) × (result.lo.number ≡ low_of word) × (result.hi.number ≡ high_of word) }
     {
         Parts {

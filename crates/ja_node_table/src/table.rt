@@ -1,4 +1,6 @@
 ghost use Rattle.std.specs.Prelude.{◌≡◌, ◌≤◌};
+ghost use Rattle.ja_base.specs.Limit.{last_variable};
+ghost use Rattle.ja_base.specs.declared.limit.TheConstants.{MIN_SLOTS, MAX_SLOTS};
 
 use crate::full::Full;
 use crate::rule::{Claims, Forks, Looks, Meets, Reached};
@@ -20,7 +22,7 @@ pub struct NodeTable<A: Aim> {
     aim: A,
     ghost aimed: { aim ≡ table.shared.key.aim },
     ghost counted: { (slots ≡ table.shared.table_id.words) × (slots ≡ table.shared.key.slots) },
-    ghost bounded: { (16 ≤ slots) × (slots ≤ 16777216) },
+    ghost bounded: { (MIN_SLOTS ≤ slots) × (slots ≤ MAX_SLOTS) },
 }
 
 impl<A: Aim> NodeTable<A> {
@@ -79,7 +81,7 @@ impl<A: Aim> NodeTable<A> {
         if found == 0 { word } else { found }
     }
 
-    /// The node with this variable, at most 4094, over two children that the seat knows and whose
+    /// The node with this variable, at most 4,094, over two children that the seat knows and whose
     /// variables are greater: `lo` where the variable is false, `hi` where it is true.
     ///
     /// Equal children are the node themselves. Else it is the node of the word of the three, which
@@ -93,7 +95,7 @@ impl<A: Aim> NodeTable<A> {
         hi: Node,
     ) -> Result<Node, Full<A>>
         requires seat { IsOf self.now seat.old }
-        requires var { var ≤ 4094 }
+        requires var { var ≤ last_variable }
         requires node { MayMake (A.aims (aim_of self.now)) (known seat.old) var lo.number hi.number }
         ensures seat { IsOf self.now seat.new }
         ensures grows { IsPart (known seat.old) (known seat.new) }

@@ -11,6 +11,7 @@ ghost use Rattle.ja_operations.specs.Tokens.{token_of_class, token_of_array, tok
 ghost use Rattle.ja_operations.specs.Shuffles.{move_after, shuffle_of};
 ghost use Rattle.ja_operations.specs.Operation.{loaded, local_of, Calls, DoesAccess, OperatesAs, IsOperation};
 ghost use Rattle.ja_operations.specs.Refused.{RefusesCall, RefusesField, Refuses, IsRefusedFor, UnlessMemory};
+ghost use Rattle.ja_base.specs.Limit.{max_numbered};
 
 use crate::OpFault;
 use crate::call::{call_kind, call_of};
@@ -53,7 +54,7 @@ fn local_of(source: Source, instr: &RawInstr) -> u32
 
 /// What loads a constant with this tag.
 fn loaded(hier: &Hier, tag: u8) -> Op
-    requires { length hier.now ≤ 2 ^ 26 }
+    requires { length hier.now ≤ max_numbered }
     ensures { result ≡ loaded hier.now tag }
 {
     match tag {
@@ -109,7 +110,7 @@ fn invoke(
 
 /// What `new` makes.
 fn new_object(alloc: Global, hier: &Hier, pool: &Pool, instr: &RawInstr) -> Result<Op, OpFault>
-    requires few { length hier.now ≤ 2 ^ 26 }
+    requires few { length hier.now ≤ max_numbered }
     requires class { NamesClass pool.now instr.now }
     ensures ok { IfOk result (λ op. op ≡ ops.New (token_of_class hier.now (class_in pool.now instr.now))) }
     ensures memory { IfErr result (λ fault. fault ≡ faults.Memory) }
@@ -120,7 +121,7 @@ fn new_object(alloc: Global, hier: &Hier, pool: &Pool, instr: &RawInstr) -> Resu
 
 /// What `multianewarray` makes.
 fn new_arrays(hier: &Hier, pool: &Pool, instr: &RawInstr) -> Op
-    requires few { length hier.now ≤ 2 ^ 26 }
+    requires few { length hier.now ≤ max_numbered }
     requires class { NamesClass pool.now instr.now }
     requires dimensions { operand_at instr.now 1 ≤ 255 }
     ensures { result ≡ ops.NewArray (token_of_innermost hier.now (class_in pool.now instr.now) (operand_at instr.now 1)) (operand_at instr.now 1) }
@@ -134,7 +135,7 @@ fn new_arrays(hier: &Hier, pool: &Pool, instr: &RawInstr) -> Op
 
 /// What `newarray` or `anewarray` makes.
 fn new_array(hier: &Hier, elements: Elements) -> Op
-    requires { length hier.now ≤ 2 ^ 26 }
+    requires { length hier.now ≤ max_numbered }
     ensures { result ≡ ops.NewArray (token_of_array hier.now elements) 1 }
 {
     Op::NewArray {
@@ -174,7 +175,7 @@ fn operates_as(
     behaviour: Behaviour,
 ) -> Result<Op, OpFault>
     requires class { c.0 < length hier.now }
-    requires few { length hier.now ≤ 2 ^ 26 }
+    requires few { length hier.now ≤ max_numbered }
     requires suits { Suits pool.now instr.now behaviour }
     ensures ok { IfOk result (OperatesAs hier.now table.now c.0 pool.now instr.now (option_copied before.entry) behaviour) }
     ensures refused { IfErr result (UnlessMemory (Refuses hier.now c.0 pool.now instr.now behaviour)) }
@@ -235,7 +236,7 @@ pub fn operation_of(
     before: Option<&KindState>,
 ) -> Result<Op, OpFault>
     requires class { c.0 < length hier.now }
-    requires few { length hier.now ≤ 2 ^ 26 }
+    requires few { length hier.now ≤ max_numbered }
     requires profiled { IsProfiled pool.now instr.now }
     ensures ok { IfOk result (IsOperation hier.now table.now c.0 pool.now instr.now (option_copied before.entry)) }
     ensures refused { IfErr result (UnlessMemory (IsRefusedFor hier.now c.0 pool.now instr.now)) }

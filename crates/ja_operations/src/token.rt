@@ -1,6 +1,7 @@
 ghost use Rattle.std.specs.Prelude.{◌≡◌, ◌≤◌, ◌<◌, ◌^◌, length, drop};
 ghost use Rattle.ja_ir.specs.Tokens.{array_shape};
 ghost use Rattle.ja_operations.specs.Tokens.{library_token, references_token, primitives_token, token_of_class, token_of_array, token_of_innermost, is_primitive, is_primitive_letter};
+ghost use Rattle.ja_base.specs.Limit.{max_numbered};
 
 use ja_base::Name;
 use ja_code::Elements;
@@ -9,7 +10,7 @@ use ja_ir::Token;
 
 /// The number of program classes.
 fn class_count(hier: &Hier) -> u32
-    requires { length hier.now ≤ 2 ^ 26 }
+    requires { length hier.now ≤ max_numbered }
     ensures { result ≡ length hier.now }
 {
     hier.heads().len() as u32
@@ -17,7 +18,7 @@ fn class_count(hier: &Hier) -> u32
 
 /// The token of library objects.
 pub(crate) fn library_token(hier: &Hier) -> Token
-    requires { length hier.now ≤ 2 ^ 26 }
+    requires { length hier.now ≤ max_numbered }
     ensures { result ≡ library_token hier.now }
 {
     Token(class_count(hier) + 1)
@@ -25,7 +26,7 @@ pub(crate) fn library_token(hier: &Hier) -> Token
 
 /// The token of arrays of references.
 fn references_token(hier: &Hier) -> Token
-    requires { length hier.now ≤ 2 ^ 26 }
+    requires { length hier.now ≤ max_numbered }
     ensures { result ≡ references_token hier.now }
 {
     Token(class_count(hier) + 2)
@@ -33,7 +34,7 @@ fn references_token(hier: &Hier) -> Token
 
 /// The token of arrays of primitives.
 fn primitives_token(hier: &Hier) -> Token
-    requires { length hier.now ≤ 2 ^ 26 }
+    requires { length hier.now ≤ max_numbered }
     ensures { result ≡ primitives_token hier.now }
 {
     Token(class_count(hier) + 3)
@@ -41,7 +42,7 @@ fn primitives_token(hier: &Hier) -> Token
 
 /// The token of new objects of the class of a name.
 pub(crate) fn token_of_class(hier: &Hier, name: &Name) -> Token
-    requires { length hier.now ≤ 2 ^ 26 }
+    requires { length hier.now ≤ max_numbered }
     ensures { result ≡ token_of_class hier.now name.now }
 {
     match hier.class_named(name) {
@@ -52,7 +53,7 @@ pub(crate) fn token_of_class(hier: &Hier, name: &Name) -> Token
 
 /// The token of new arrays of one dimension.
 pub(crate) fn token_of_array(hier: &Hier, elements: Elements) -> Token
-    requires { length hier.now ≤ 2 ^ 26 }
+    requires { length hier.now ≤ max_numbered }
     ensures { result ≡ token_of_array hier.now elements }
 {
     match elements {
@@ -83,7 +84,7 @@ fn is_primitive(element: &[u8]) -> bool
 
 /// The token of the innermost arrays that `multianewarray` makes of an array class.
 pub(crate) fn token_of_innermost(hier: &Hier, name: &[u8], dimensions: u32) -> Token
-    requires { length hier.now ≤ 2 ^ 26 }
+    requires { length hier.now ≤ max_numbered }
     ensures { result ≡ token_of_innermost hier.now name.now dimensions }
 {
     let (_, element) = name.split_at(name.len().min(dimensions as usize));

@@ -4,6 +4,7 @@ use Rattle.ja_ir.specs.declared.method.Method.{Method}
 use Rattle.ja_order.specs.declared.frame.Frame.{Frame}
 use Rattle.ja_order.specs.declared.order.Order.{Order}
 use Rattle.ja_order.specs.Order.{param_words}
+use Rattle.ja_base.specs.Limit.{max_frame_values}
 
 -- the frame of a method: how many locals, of which the first are those of parameters, and how many values on the stack
 pub record IsFrameOf (method : Method) (frame : Frame) : Type 0 where
@@ -14,7 +15,7 @@ pub record IsFrameOf (method : Method) (frame : Frame) : Type 0 where
 -- a frame has room for its parameters, and not too many slots
 pub record IsSmall (frame : Frame) : Type 0 where
   pub room : frame.params ≤ frame.locals
-  pub small : frame.locals + frame.stack ≤ 512
+  pub small : frame.locals + frame.stack ≤ max_frame_values
 
 -- each number below n stands in the second list at the place below n that the first list has for it
 abbrev pub AreFound : (places numbers : List ℕ) → ℕ → Type 0

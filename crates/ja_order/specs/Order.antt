@@ -8,6 +8,7 @@ use Rattle.ja_ir.specs.Lookup.{is_member, HasCode}
 use Rattle.ja_ir.specs.Operations.{count_of}
 use Rattle.ja_ir.specs.Params.{param_count, param_local}
 use Rattle.ja_order.specs.declared.order.Order.{Order}
+use Rattle.ja_base.specs.Limit.{max_frame_values}
 
 -- slots are numbered: the locals, then the values on the stack, the lowest first, then dirt and exc. This is the value over k others
 abbrev pub stack_slot : Method → ℕ → ℕ
@@ -32,7 +33,7 @@ param_words method = count_of (is_member method.flags) + words_of_all method.typ
 -- the frame has room for the parameters, and not too many slots
 pub record HasFrame (method : Method) : Type 0 where
   pub room : param_words method ≤ method.locals
-  pub small : method.locals + method.stack ≤ 512
+  pub small : method.locals + method.stack ≤ max_frame_values
 
 -- this is an order of a method's variables
 pub record IsOrder (method : Method) (order : Order) : Type 0 where

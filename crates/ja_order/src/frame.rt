@@ -3,6 +3,7 @@ ghost use Rattle.ja_ir.specs.Lookup.{is_member};
 ghost use Rattle.ja_ir.specs.Operations.{count_of};
 ghost use Rattle.ja_base.specs.Descriptor.{words_of_all};
 ghost use Rattle.ja_order.specs.Order.{HasFrame};
+ghost use Rattle.ja_base.specs.Limit.{max_frame_values};
 
 use ja_base::JavaType;
 use ja_ir::Method;
@@ -18,7 +19,7 @@ pub struct Frame {
 
 /// How many words values of these types take.
 fn words_of(types: &[JavaType]) -> u32
-    requires { words_of_all types.now ≤ 512 }
+    requires { words_of_all types.now ≤ max_frame_values }
     ensures { result ≡ words_of_all types.now }
 {
     types.iter().map(|type_| type_.kind.words()).sum()

@@ -1,5 +1,6 @@
 ghost use Rattle.std.specs.Prelude.{◌≡◌, ◌≤◌, ◌<◌, ◌+◌, IfOk};
 ghost use Rattle.ja_order.specs.Inner.{IsOrderOf, IsPlain, IsSmall, ArePlainPlaces, ArePlainSlots};
+ghost use Rattle.ja_base.specs.Limit.{max_frame_values};
 
 use crate::frame::Frame;
 use crate::order::Order;
@@ -8,7 +9,7 @@ use std::alloc::Global;
 
 /// The place of a slot in the plain order.
 fn plain_place(locals: u32, stack: u32, slot: u32) -> u32
-    requires { (locals + stack ≤ 512) × (slot < locals + stack + 2) }
+    requires { (locals + stack ≤ max_frame_values) × (slot < locals + stack + 2) }
     ensures { IsPlain locals stack slot result }
 {
     if locals == 0 || stack == 0 {
@@ -22,7 +23,7 @@ fn plain_place(locals: u32, stack: u32, slot: u32) -> u32
 
 /// The slot at a place in the plain order.
 fn plain_slot(locals: u32, stack: u32, place: u32) -> u32
-    requires { (locals + stack ≤ 512) × (place < locals + stack + 2) }
+    requires { (locals + stack ≤ max_frame_values) × (place < locals + stack + 2) }
     ensures { IsPlain locals stack result place }
 {
     if locals == 0 || stack == 0 {
@@ -36,7 +37,7 @@ fn plain_slot(locals: u32, stack: u32, place: u32) -> u32
 
 /// The places of all slots in the plain order.
 fn plain_places(alloc: Global, locals: u32, stack: u32) -> Result<Seq<u32>, Memory>
-    requires { locals + stack ≤ 512 }
+    requires { locals + stack ≤ max_frame_values }
     ensures { IfOk result (ArePlainPlaces locals stack) }
 {
     let mut places = Seq::new(alloc);
@@ -48,7 +49,7 @@ fn plain_places(alloc: Global, locals: u32, stack: u32) -> Result<Seq<u32>, Memo
 
 /// The slots at all places in the plain order.
 fn plain_slots(alloc: Global, locals: u32, stack: u32) -> Result<Seq<u32>, Memory>
-    requires { locals + stack ≤ 512 }
+    requires { locals + stack ≤ max_frame_values }
     ensures { IfOk result (ArePlainSlots locals stack) }
 {
     let mut slots = Seq::new(alloc);

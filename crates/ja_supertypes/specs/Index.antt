@@ -7,6 +7,7 @@ use Rattle.ja_supertypes.specs.declared.tables.Tables.{Tables}
 use Rattle.ja_supertypes.specs.Faults.{AreClasses}
 use Rattle.ja_supertypes.specs.Rows.{ShowsAll}
 use Rattle.ja_supertypes.specs.Supertypes.{names_of, place_of, place_of_some, superclass_of, IsDirect, IsSuperclass, IsSuperinterface, IsSupertype, HasLibrarySupertype}
+use Rattle.ja_base.specs.Limit.{max_numbered}
 
 -- the place of the direct superclass of each class, where it is a program class
 abbrev pub superclass_places : List ClassHead → List (Option ℕ)
@@ -54,7 +55,7 @@ pub record AreTops (heads : List ClassHead) (tops : List ℕ) : Type 0 where
 
 -- the tables are those of classes with well-founded supertypes
 pub record IsIndexed (tables : Tables) : Type 0 where
-  pub few : length tables.heads ≤ 2 ^ 26
+  pub few : length tables.heads ≤ max_numbered
   pub valid : AreClasses tables.heads
   pub names : tables.names.keys ≡ names_of tables.heads
   pub superclasses : tables.superclasses ≡ superclass_places tables.heads

@@ -3,6 +3,7 @@ ghost use Rattle.ja_supertypes.specs.Faults.{AreClasses, IsFault};
 ghost use Rattle.ja_supertypes.specs.LibraryTypes.{AreLibraryTypes, IsNearest};
 ghost use Rattle.ja_supertypes.specs.Supertypes as supertypes;
 ghost use Rattle.ja_supertypes.specs.Supertypes.{superclass_of, supertypes_of, AreSupertypes, IsSupertype, IsSuperclass, IsSuperinterface, HasLibrarySupertype};
+ghost use Rattle.ja_base.specs.Limit.{max_numbered};
 
 use crate::ClassFault;
 use crate::library::library_types;
@@ -42,7 +43,7 @@ impl Model for Classes {
 /// of the platform, a second class of one name, a class that is its own supertype. `Memory` for want of
 /// memory.
 pub fn classes_of(alloc: Global, heads: &[ClassHead]) -> Result<Classes, ClassFault>
-    requires { length heads.now ≤ 2 ^ 26 }
+    requires { length heads.now ≤ max_numbered }
     ensures heads { IfOk result (λ classes. classes ≡ heads.now) }
     ensures valid { OnOk result (AreClasses heads.now) }
     ensures fault { IfErr result (IsFault heads.now) }

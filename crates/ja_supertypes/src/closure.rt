@@ -1,5 +1,6 @@
 ghost use Rattle.std.specs.Prelude.{◌≡◌, ℕ, ◌<◌, ◌≤◌, ◌^◌, [], length, slice_index_or, IfOk, OnOk};
 ghost use Rattle.ja_supertypes.specs.Rows.{ShowsDirect, ShowsAll, stepped};
+ghost use Rattle.ja_base.specs.Limit.{max_numbered};
 
 use ja_base::Memory;
 use ja_ir::ClassHead;
@@ -9,7 +10,7 @@ use std::alloc::Global;
 /// From the direct supertypes of each class to all its proper supertypes: one class after the other is
 /// taken as the middle of a way up.
 pub fn close(alloc: Global, heads: &[ClassHead], rows: &mut [TokenSet]) -> Result<(), Memory>
-    requires few { length heads.now ≤ 2 ^ 26 }
+    requires few { length heads.now ≤ max_numbered }
     requires direct { ShowsDirect heads.now rows.old }
     ensures { OnOk result (ShowsAll heads.now rows.new) }
 {

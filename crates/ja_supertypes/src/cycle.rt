@@ -1,6 +1,7 @@
 ghost use Rattle.std.specs.Prelude.{◌≤◌, ◌^◌, length, IfErr, OnOk};
 ghost use Rattle.ja_supertypes.specs.Faults.{IsFault, IsNowhere, IsPlatform, IsDuplicate, IsCyclic};
 ghost use Rattle.ja_supertypes.specs.Rows.{ShowsAll};
+ghost use Rattle.ja_base.specs.Limit.{max_numbered};
 
 use crate::ClassFault;
 use ja_ir::ClassHead;
@@ -8,7 +9,7 @@ use ja_sets::TokenSet;
 
 /// Refuses a class that is its own supertype.
 pub fn check_cycles(heads: &[ClassHead], above: &[TokenSet]) -> Result<(), ClassFault>
-    requires few { length heads.now ≤ 2 ^ 26 }
+    requires few { length heads.now ≤ max_numbered }
     requires above { ShowsAll heads.now above.now }
     requires platform { IsNowhere (IsPlatform heads.now) }
     requires distinct { IsNowhere (IsDuplicate heads.now) }

@@ -3,6 +3,7 @@ ghost use Rattle.ja_ir.specs.declared.head.ClassHead.{ClassHead};
 ghost use Rattle.ja_sets.specs.Sets.{Has};
 ghost use Rattle.ja_supertypes.specs.Supertypes.{place_of, place_of_some};
 ghost use Rattle.ja_supertypes.specs.Rows.{AreSets, IsSetOf};
+ghost use Rattle.ja_base.specs.Limit.{max_numbered};
 
 use indexmap::IndexSet;
 use ja_base::{Memory, Name, Numbers, Seq};
@@ -12,7 +13,7 @@ use std::alloc::Global;
 
 /// The first place of a name.
 fn place_of(names: &IndexSet<Name>, name: &Name) -> Option<u32>
-    requires { length names.now.keys ≤ 2 ^ 26 }
+    requires { length names.now.keys ≤ max_numbered }
     ensures { result ≡ place_of names.now.keys name.now }
 {
     match names.get_index_of(name) {
@@ -27,7 +28,7 @@ pub fn superclass_places(
     heads: &[ClassHead],
     names: &IndexSet<Name>,
 ) -> Result<Seq<Option<u32>>, Memory>
-    requires { length names.now.keys ≤ 2 ^ 26 }
+    requires { length names.now.keys ≤ max_numbered }
     ensures { IfOk result (λ list. list ≡ map (λ (head : ClassHead). place_of_some names.now.keys head.superclass) heads.now) }
 {
     let mut places = Seq::new(alloc);
@@ -38,7 +39,7 @@ pub fn superclass_places(
 }
 
 fn superclass_place(names: &IndexSet<Name>, head: &ClassHead) -> Option<u32>
-    requires { length names.now.keys ≤ 2 ^ 26 }
+    requires { length names.now.keys ≤ max_numbered }
     ensures { result ≡ place_of_some names.now.keys head.now.superclass }
 {
     match &head.superclass {
@@ -53,7 +54,7 @@ pub fn interface_places(
     heads: &[ClassHead],
     names: &IndexSet<Name>,
 ) -> Result<Seq<Numbers>, Memory>
-    requires { length names.now.keys ≤ 2 ^ 26 }
+    requires { length names.now.keys ≤ max_numbered }
     ensures { IfOk result (λ list. list ≡ map (λ (head : ClassHead). filter_map (place_of names.now.keys) head.interfaces) heads.now) }
 {
     let mut places = Seq::new(alloc);
@@ -75,7 +76,7 @@ fn push_some(places: &mut Numbers, place: Option<u32>) -> Result<(), Memory>
 
 /// The places of the program classes among these, in the same order.
 fn places_of(alloc: Global, listed: &[Name], names: &IndexSet<Name>) -> Result<Numbers, Memory>
-    requires { length names.now.keys ≤ 2 ^ 26 }
+    requires { length names.now.keys ≤ max_numbered }
     ensures { IfOk result (λ list. list ≡ filter_map (place_of names.now.keys) listed.now) }
 {
     let mut places = Seq::new(alloc);
@@ -92,7 +93,7 @@ pub fn supertype_places(
     heads: &[ClassHead],
     names: &IndexSet<Name>,
 ) -> Result<Seq<Numbers>, Memory>
-    requires { length names.now.keys ≤ 2 ^ 26 }
+    requires { length names.now.keys ≤ max_numbered }
     ensures { IfOk result (λ list. list ≡ map (λ (head : ClassHead). filter_map (place_of names.now.keys) head.interfaces ++ option_to_list (place_of_some names.now.keys head.superclass)) heads.now) }
 {
     let mut places = Seq::new(alloc);

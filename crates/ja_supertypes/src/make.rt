@@ -3,6 +3,7 @@ ghost use Rattle.ja_supertypes.specs.Faults.{IsCyclic, IsDuplicate, IsFault, IsN
 ghost use Rattle.ja_supertypes.specs.Index.{interface_places, superclass_places, supertype_places, AreTops, IsIndexed, Lists, Shows, ShowsForeign};
 ghost use Rattle.ja_supertypes.specs.Rows.{ShowsAll};
 ghost use Rattle.ja_supertypes.specs.Supertypes.{names_of, IsDirect, IsSuperclass, IsSuperinterface, IsSupertype};
+ghost use Rattle.ja_base.specs.Limit.{max_numbered};
 
 use crate::ClassFault;
 use crate::closure::close;
@@ -40,7 +41,7 @@ struct Above {
 
 /// The tables of the classes with these heads.
 pub fn tables_of(alloc: Global, heads: &[ClassHead]) -> Result<Tables, ClassFault>
-    requires { length heads.now ≤ 2 ^ 26 }
+    requires { length heads.now ≤ max_numbered }
     ensures heads { IfOk result (λ tables. tables.heads ≡ heads.now) }
     ensures indexed { IfOk result IsIndexed }
     ensures fault { IfErr result (IsFault heads.now) }
@@ -65,7 +66,7 @@ pub fn tables_of(alloc: Global, heads: &[ClassHead]) -> Result<Tables, ClassFaul
 
 /// The names of the classes, where these are distinct and outside the platform.
 fn distinct_names(alloc: Global, heads: &[ClassHead]) -> Result<IndexSet<Name>, ClassFault>
-    requires { length heads.now ≤ 2 ^ 26 }
+    requires { length heads.now ≤ max_numbered }
     ensures names { IfOk result (λ names. names.keys ≡ names_of heads.now) }
     ensures platform { OnOk result (IsNowhere (IsPlatform heads.now)) }
     ensures distinct { OnOk result (IsNowhere (IsDuplicate heads.now)) }
@@ -77,7 +78,7 @@ fn distinct_names(alloc: Global, heads: &[ClassHead]) -> Result<IndexSet<Name>, 
 
 /// The supertypes of the classes with these names, which are well-founded.
 fn ways_of(alloc: Global, heads: &[ClassHead], names: &IndexSet<Name>) -> Result<Ways, ClassFault>
-    requires few { length heads.now ≤ 2 ^ 26 }
+    requires few { length heads.now ≤ max_numbered }
     requires names { names.now.keys ≡ names_of heads.now }
     requires platform { IsNowhere (IsPlatform heads.now) }
     requires distinct { IsNowhere (IsDuplicate heads.now) }
@@ -105,7 +106,7 @@ fn above_of(
     names: &IndexSet<Name>,
     ways: &Ways,
 ) -> Result<Above, Memory>
-    requires few { length heads.now ≤ 2 ^ 26 }
+    requires few { length heads.now ≤ max_numbered }
     requires names { names.now.keys ≡ names_of heads.now }
     requires superclasses { ways.now.superclasses ≡ superclass_places heads.now }
     requires above { ShowsAll heads.now ways.now.above.items }
@@ -137,7 +138,7 @@ fn listed_supertypes(
     heads: &[ClassHead],
     above: &[TokenSet],
 ) -> Result<Seq<Numbers>, Memory>
-    requires few { length heads.now ≤ 2 ^ 26 }
+    requires few { length heads.now ≤ max_numbered }
     requires above { ShowsAll heads.now above.now }
     requires acyclic { IsNowhere (IsCyclic heads.now) }
     ensures lists { IfOk result (Lists heads.now (IsSupertype heads.now)) }
@@ -152,7 +153,7 @@ fn all_supertypes(
     heads: &[ClassHead],
     direct: &[Numbers],
 ) -> Result<Vec<TokenSet>, Memory>
-    requires few { length heads.now ≤ 2 ^ 26 }
+    requires few { length heads.now ≤ max_numbered }
     requires direct { direct.now ≡ supertype_places heads.now }
     ensures { IfOk result (λ rows. ShowsAll heads.now rows.items) }
 {
@@ -168,7 +169,7 @@ fn all_superinterfaces(
     names: &IndexSet<Name>,
     supertypes: &[Numbers],
 ) -> Result<Vec<TokenSet>, Memory>
-    requires few { length heads.now ≤ 2 ^ 26 }
+    requires few { length heads.now ≤ max_numbered }
     requires names { names.now.keys ≡ names_of heads.now }
     requires supertypes { Lists heads.now (IsSupertype heads.now) supertypes.now }
     ensures { IfOk result (λ sets. Shows heads.now (IsSuperinterface heads.now) sets.items) }

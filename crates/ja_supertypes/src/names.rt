@@ -1,6 +1,7 @@
 ghost use Rattle.std.specs.Prelude.{◌≡◌, ◌^◌, ◌≤◌, [], length, IfOk, IfErr, OnOk, map};
 ghost use Rattle.ja_ir.specs.declared.head.ClassHead.{ClassHead};
 ghost use Rattle.ja_supertypes.specs.Faults.{IsFault, IsNowhere, IsPlatform, IsDuplicate};
+ghost use Rattle.ja_base.specs.Limit.{max_numbered};
 
 use crate::ClassFault;
 use indexmap::IndexSet;
@@ -10,7 +11,7 @@ use std::alloc::Global;
 
 /// Refuses a class in a package of the platform.
 pub fn check_platform(heads: &[ClassHead]) -> Result<(), ClassFault>
-    requires { length heads.now ≤ 2 ^ 26 }
+    requires { length heads.now ≤ max_numbered }
     ensures ok { OnOk result (IsNowhere (IsPlatform heads.now)) }
     ensures err { IfErr result (IsFault heads.now) }
 {
@@ -26,7 +27,7 @@ pub fn check_platform(heads: &[ClassHead]) -> Result<(), ClassFault>
 
 /// The names of the classes, each at the place of its class.
 pub fn number_names(alloc: Global, heads: &[ClassHead]) -> Result<IndexSet<Name>, ClassFault>
-    requires few { length heads.now ≤ 2 ^ 26 }
+    requires few { length heads.now ≤ max_numbered }
     requires platform { IsNowhere (IsPlatform heads.now) }
     ensures names { IfOk result (λ names. names.keys ≡ map (λ (head : ClassHead). head.name) heads.now) }
     ensures distinct { OnOk result (IsNowhere (IsDuplicate heads.now)) }

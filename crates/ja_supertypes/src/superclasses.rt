@@ -2,6 +2,7 @@ ghost use Rattle.std.specs.Prelude.{◌≡◌, ◌<◌, ◌≤◌, ◌^◌, leng
 ghost use Rattle.ja_supertypes.specs.Faults.{IsCyclic, IsNowhere};
 ghost use Rattle.ja_supertypes.specs.Index.{superclass_places, AreTops, HasJust, IsTop, Shows};
 ghost use Rattle.ja_supertypes.specs.Supertypes.{IsSuperclass};
+ghost use Rattle.ja_base.specs.Limit.{max_numbered};
 
 use ja_base::{Memory, Numbers, Seq};
 use ja_ir::ClassHead;
@@ -14,7 +15,7 @@ pub fn superclass_sets(
     heads: &[ClassHead],
     superclasses: &[Option<u32>],
 ) -> Result<Vec<TokenSet>, Memory>
-    requires few { length heads.now ≤ 2 ^ 26 }
+    requires few { length heads.now ≤ max_numbered }
     requires superclasses { superclasses.now ≡ superclass_places heads.now }
     requires acyclic { IsNowhere (IsCyclic heads.now) }
     ensures { IfOk result (λ sets. Shows heads.now (IsSuperclass heads.now) sets.items) }
@@ -33,7 +34,7 @@ fn superclass_set(
     superclasses: &[Option<u32>],
     class: u32,
 ) -> Result<TokenSet, Memory>
-    requires few { length heads.now ≤ 2 ^ 26 }
+    requires few { length heads.now ≤ max_numbered }
     requires superclasses { superclasses.now ≡ superclass_places heads.now }
     requires acyclic { IsNowhere (IsCyclic heads.now) }
     requires inside { class < length heads.now }
@@ -54,7 +55,7 @@ pub fn tops(
     heads: &[ClassHead],
     superclasses: &[Option<u32>],
 ) -> Result<Numbers, Memory>
-    requires few { length heads.now ≤ 2 ^ 26 }
+    requires few { length heads.now ≤ max_numbered }
     requires superclasses { superclasses.now ≡ superclass_places heads.now }
     requires acyclic { IsNowhere (IsCyclic heads.now) }
     ensures { IfOk result (AreTops heads.now) }

@@ -1,5 +1,6 @@
 ghost use Rattle.std.specs.Prelude.{◌≡◌, ◌+◌, ◌≤◌};
 ghost use Rattle.ja_work.specs.Orders.{IsOrder};
+ghost use Rattle.ja_base.specs.Limit.{max_frame_values};
 
 use ja_base::Seq;
 
@@ -15,7 +16,7 @@ pub struct Frame {
     pub stack: u32,
     pub places: Seq<u32>,
     pub slots: Seq<u32>,
-    pub ghost small: { locals + stack ≤ 512 },
+    pub ghost small: { locals + stack ≤ max_frame_values },
     pub ghost order: { ∥ IsOrder (locals + stack + 2) places slots ∥₁ },
 }
 

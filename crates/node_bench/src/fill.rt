@@ -2,6 +2,7 @@ ghost use Rattle.std.specs.Prelude.{◌≡◌, ◌<◌, ◌≤◌, ◌-◌, leng
 ghost use Rattle.ja_node_core.specs.Node.{IsPart};
 ghost use Rattle.ja_node_table.specs.Seats.{IsOf, known};
 ghost use Rattle.node_bench.specs.Made.{IsUnder, IsAsked};
+ghost use Rattle.ja_base.specs.Limit.{last_variable};
 
 use crate::ask::ask;
 use crate::load::Failure;
@@ -43,7 +44,7 @@ fn make_layer(
     width: u64,
 ) -> Result<Vec<Node>, Failure>
     requires seat { IsOf table.now seat.old }
-    requires var { (0 < var) × (var ≤ 4094) }
+    requires var { (0 < var) × (var ≤ last_variable) }
     requires nodes { (2 ≤ length nodes.now) × All (IsUnder (known seat.old) var) nodes.now }
     requires parts { All (IsAsked (known seat.old)) parts.old.items }
     ensures seat { IsOf table.now seat.new }
@@ -82,7 +83,7 @@ pub fn fill(
 {
     let mut parts = Vec::new(alloc);
     let mut nodes = vec![in alloc; Node::FALSE, Node::TRUE]?;
-    for layer in 0..4094 {
+    for layer in 0..LAST {
         let left = count.saturating_sub(parts.len() as u64);
         if left == 0 {
             break;
@@ -93,7 +94,7 @@ pub fn fill(
             seat,
             &nodes,
             &mut parts,
-            4094 - layer,
+            LAST - layer,
             left.min(WIDTH),
         )?;
         nodes.extend_from_slice(&fresh)?;
