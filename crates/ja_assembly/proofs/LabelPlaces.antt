@@ -1,7 +1,7 @@
 -- Where labels stand, one instruction after the other.
 use Rattle.std.proofs.Common.{◌≡◌, ℕ, Bool, true, false, cond, List, Option, Some, None, refl}
 use Rattle.ja_assembly.specs.Members.{is_label_of}
-use Rattle.ja_assembly.specs.Labels.{or_else, has_given}
+use Rattle.ja_assembly.specs.InnerLabels.{or_else, has_given}
 
 given_by : (a b : Option ℕ) (pc : ℕ) (test : Bool) → or_else (or_else a (cond test (Some pc) None)) b ≡ or_else a (cond test (Some pc) b)
 given_by None b pc true = refl

@@ -4,6 +4,6 @@ pub mod Unwritable
 pub mod Assembled
 pub mod Written
 pub mod Arguments
-pub mod Labels
+pub mod InnerLabels
 pub mod Right
 pub mod ReadBack

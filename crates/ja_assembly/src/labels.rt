@@ -2,7 +2,7 @@
 
 ghost use Rattle.std.specs.Prelude.{◌≡◌, ◌+◌, ◌≤◌, [], ◌∷◌, ℕ, List, IfOk, OnOk, MatchOption};
 ghost use Rattle.ja_assembly.specs.Members.{size_of_opcode, place_of_label, instructions_in};
-ghost use Rattle.ja_assembly.specs.Labels.{places, or_else, has_given};
+ghost use Rattle.ja_assembly.specs.InnerLabels.{places, or_else, has_given};
 
 use indexmap::IndexMap;
 use ja_base::{Memory, Name};

@@ -12,7 +12,7 @@ use Rattle.ja_attributes.specs.declared.code.MethodCode.{MethodCode}
 use Rattle.ja_attributes.specs.Part.{times}
 use Rattle.ja_attributes.specs.Attribute.{AttributeInfo, attributes_bytes, PassesAny, CodeAttribute, handler_bytes, IsHandler, code_bytes, IsCodeAttribute, IsCode}
 use Rattle.ja_attributes.specs.Faults.{handler, decoded, is_code_length, code_array, Layout, code_layout, code_content}
-use Rattle.ja_attributes.specs.Steps.{behind_all}
+use Rattle.ja_attributes.specs.InnerSteps.{behind_all}
 use Rattle.ja_pool.proofs.PayloadParts.{passes_both}
 use Rattle.ja_attributes.proofs.Parts.{nothing_passed}
 use Rattle.ja_attributes.proofs.Codes.{short_enough}

@@ -18,7 +18,7 @@ use Rattle.ja_attributes.specs.declared.method.Codes.TheVariants.{Absent}
 use Rattle.ja_attributes.specs.Part.{u2, u4, times, fold, ReadsUnless}
 use Rattle.ja_attributes.specs.Attribute.{is_named}
 use Rattle.ja_attributes.specs.Faults.{handler, decoded, is_code_length, code_array, Layout, code_layout, in_content, code_content, with_code, next_code, any_attributes, method_attribute, is_due, only_code, method_attributes, passed_over}
-use Rattle.ja_attributes.specs.Steps.{onward, IsWithin, behind_all, Head, content_of, head, undecodable}
+use Rattle.ja_attributes.specs.InnerSteps.{onward, IsWithin, behind_all, Head, content_of, head, undecodable}
 use Rattle.ja_attributes.proofs.Parts.{Forward, same_total, reading_is, times_exact}
 use Rattle.ja_attributes.proofs.Exact.{handler_exact, code_array_exact, code_layout_exact}
 use Rattle.ja_attributes.proofs.Heads.{stays_within, u2_within, attribute_cut, attribute_read, attribute_wrong, over}

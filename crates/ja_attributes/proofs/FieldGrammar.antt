@@ -11,7 +11,7 @@ use Rattle.ja_attributes.specs.declared.fault.AttributeFault.{AttributeFault}
 use Rattle.ja_attributes.specs.Part.{Part, u2, choose}
 use Rattle.ja_attributes.specs.Attribute.{AttributeInfo, attribute_bytes, is_named, named, IsConstantValue, SayConstant, PassesField}
 use Rattle.ja_attributes.specs.Faults.{constant_value, first_constant, field_attribute, field_attributes, passed_over}
-use Rattle.ja_attributes.specs.Steps.{behind_all, Head, content_of}
+use Rattle.ja_attributes.specs.InnerSteps.{behind_all, Head, content_of}
 use Rattle.ja_attributes.proofs.Fields.{first_read, second_read, constant_read}
 use Rattle.ja_attributes.proofs.Lists.{halves, Says, Said, Run, run_as, listed, folded, numbered, over_said, over_anywhere}
 

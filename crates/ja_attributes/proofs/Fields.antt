@@ -11,7 +11,7 @@ use Rattle.ja_attributes.specs.declared.fault.AttributeFault.TheVariants.{End, B
 use Rattle.ja_attributes.specs.Part.{Part, u2, choose, Reads}
 use Rattle.ja_attributes.specs.Attribute.{is_named, is_value_tag}
 use Rattle.ja_attributes.specs.Faults.{constant_value, first_constant, field_attribute, passed_over}
-use Rattle.ja_attributes.specs.Steps.{behind_all, Head, content_of, head}
+use Rattle.ja_attributes.specs.InnerSteps.{behind_all, Head, content_of, head}
 use Rattle.ja_attributes.proofs.Heads.{attribute_cut, attribute_read, attribute_wrong, over}
 
 -- ---- one part or another

@@ -11,7 +11,7 @@ use Rattle.ja_attributes.specs.Part.{Part, u2, u4, Reads}
 use Rattle.ja_attributes.proofs.Exact.{name_index_exact}
 use Rattle.ja_attributes.specs.Faults.{name_index, attribute, passed_over, any_attribute}
 use Rattle.ja_attributes.proofs.Parts.{Forward, same_total}
-use Rattle.ja_attributes.specs.Steps.{onward, IsWithin, behind_all, Head, content_of, head}
+use Rattle.ja_attributes.specs.InnerSteps.{onward, IsWithin, behind_all, Head, content_of, head}
 
 -- ---- the index of a name
 

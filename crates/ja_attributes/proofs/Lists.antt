@@ -11,7 +11,7 @@ use Rattle.ja_attributes.specs.declared.fault.AttributeFault.TheVariants.{End}
 use Rattle.ja_attributes.specs.Part.{Part, u2, fold}
 use Rattle.ja_attributes.specs.Attribute.{AttributeInfo, attribute_bytes, IsAttribute, PassesAttributes, PassesAny}
 use Rattle.ja_attributes.specs.Faults.{name_index, attribute, passed_over, any_attribute, any_attributes}
-use Rattle.ja_attributes.specs.Steps.{behind_all}
+use Rattle.ja_attributes.specs.InnerSteps.{behind_all}
 use Rattle.ja_pool.proofs.PayloadParts.{passes_both}
 use Rattle.ja_attributes.proofs.Parts.{nothing_passed}
 

@@ -13,7 +13,7 @@ use Rattle.ja_attributes.specs.declared.method.Codes.TheVariants.{Absent, Severa
 use Rattle.ja_attributes.specs.Part.{Part, choose}
 use Rattle.ja_attributes.specs.Attribute.{AttributeInfo, attribute_bytes, is_named, named, IsCode, SayCode, PassesMethod}
 use Rattle.ja_attributes.specs.Faults.{next_code, with_code, method_attribute, method_attributes, passed_over, is_due, only_code}
-use Rattle.ja_attributes.specs.Steps.{behind_all}
+use Rattle.ja_attributes.specs.InnerSteps.{behind_all}
 use Rattle.ja_attributes.proofs.Fields.{first_read, second_read}
 use Rattle.ja_attributes.proofs.FieldGrammar.{chosen, named_more, named_same}
 use Rattle.ja_attributes.proofs.CodeGrammar.{content_spelled, spelled_content}

@@ -1,4 +1,4 @@
 pub mod Part
 pub mod Attribute
 pub mod Faults
-pub mod Steps
+pub mod InnerSteps

@@ -6,7 +6,7 @@ ghost use Rattle.ja_attributes.specs.Part.{Reads};
 ghost use Rattle.ja_attributes.specs.Faults.{name_index};
 ghost use Rattle.ja_attributes.specs.Attribute.{is_named};
 ghost use Rattle.ja_pool.specs.Table.{tag_at};
-ghost use Rattle.ja_attributes.specs.Steps.{IsWithin, onward, seen, head};
+ghost use Rattle.ja_attributes.specs.InnerSteps.{IsWithin, onward, seen, head};
 
 use crate::AttributeFault;
 use crate::number::{four_bytes, two_bytes};

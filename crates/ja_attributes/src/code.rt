@@ -4,7 +4,7 @@ ghost use Rattle.std.specs.Prelude.{◌≡◌, ◌+◌, ◌≤◌, ◌<◌, ◌^
 ghost use Rattle.ja_attributes.specs.declared.fault.AttributeFault.TheVariants.{Memory};
 ghost use Rattle.ja_attributes.specs.Part.{times, Reads, ReadsUnless};
 ghost use Rattle.ja_attributes.specs.Faults.{handler, is_code_length, code_array, code_layout, in_content, code_content};
-ghost use Rattle.ja_attributes.specs.Steps.{onward, IsWithin, content_of, behind_all, seen, undecodable};
+ghost use Rattle.ja_attributes.specs.InnerSteps.{onward, IsWithin, content_of, behind_all, seen, undecodable};
 
 use crate::AttributeFault;
 use crate::attribute::Attribute;

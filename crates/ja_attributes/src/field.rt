@@ -5,7 +5,7 @@ ghost use Rattle.ja_attributes.specs.declared.fault.AttributeFault.{AttributeFau
 ghost use Rattle.ja_attributes.specs.Part.{Reads};
 ghost use Rattle.ja_attributes.specs.Attribute.{PassesField, is_value_tag};
 ghost use Rattle.ja_attributes.specs.Faults.{first_constant, field_attribute, field_attributes, IsFieldFault};
-ghost use Rattle.ja_attributes.specs.Steps.{content_of, behind_all, seen};
+ghost use Rattle.ja_attributes.specs.InnerSteps.{content_of, behind_all, seen};
 
 use crate::AttributeFault;
 use crate::attribute::{Attribute, is_named, next_attribute};

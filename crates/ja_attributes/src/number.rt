@@ -3,7 +3,7 @@
 ghost use Rattle.std.specs.Prelude.{◌≡◌};
 ghost use Rattle.ja_attributes.specs.declared.fault.AttributeFault.TheVariants.{End};
 ghost use Rattle.ja_attributes.specs.Part.{u2, u4, Reads};
-ghost use Rattle.ja_attributes.specs.Steps.{IsWithin, onward};
+ghost use Rattle.ja_attributes.specs.InnerSteps.{IsWithin, onward};
 
 use crate::AttributeFault;
 use ja_bytes::Cursor;

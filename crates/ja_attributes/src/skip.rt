@@ -4,7 +4,7 @@ ghost use Rattle.ja_attributes.specs.declared.fault.AttributeFault.{AttributeFau
 ghost use Rattle.ja_attributes.specs.Part.{Reads};
 ghost use Rattle.ja_attributes.specs.Attribute.{PassesAny};
 ghost use Rattle.ja_attributes.specs.Faults.{any_attribute, any_attributes, IsAnyFault};
-ghost use Rattle.ja_attributes.specs.Steps.{IsWithin, onward};
+ghost use Rattle.ja_attributes.specs.InnerSteps.{IsWithin, onward};
 
 use crate::AttributeFault;
 use crate::attribute::attribute_in;

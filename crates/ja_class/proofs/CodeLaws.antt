@@ -12,7 +12,7 @@ use Rattle.ja_class.specs.declared.first.FirstFault.TheVariants.{Unbuilt, Memory
 use Rattle.ja_class.specs.declared.first.FirstInstr.{FirstInstr}
 use Rattle.ja_class.specs.declared.first.FirstOp.{FirstOp}
 use Rattle.ja_class.specs.declared.first.FirstOp.TheVariants as op
-use Rattle.ja_class.specs.Reading.{◌>>=◌, Fails, Gives, number_at, byte_at, call_at, constant_at, operation_at, step_from, code_from}
+use Rattle.ja_class.specs.InnerReading.{◌>>=◌, Fails, Gives, number_at, byte_at, call_at, constant_at, operation_at, step_from, code_from}
 use Rattle.ja_class.proofs.Exact.{IsBytes, IsBytes-rest, bind_some, chosen, guard_holds, some_is, Takes, number16}
 use Rattle.ja_class.proofs.PoolLaws.{and_holds, within, call_takes, call_again, constant_takes, constant_again}
 

@@ -3,7 +3,7 @@ use Rattle.std.proofs.Common.{◌≡◌, ℕ, suc, ◌⊎◌, inl, inr, List, �
 use Rattle.ja_bytes.specs.Reading.{Reading}
 use Rattle.ja_pool.specs.declared.fault.PoolFault.{PoolFault}
 use Rattle.ja_pool.specs.declared.fault.PoolFault.TheVariants as pool
-use Rattle.ja_pool.specs.Shape.{OrMemory}
+use Rattle.ja_pool.specs.InnerShape.{OrMemory}
 use Rattle.ja_attributes.specs.Part.{Part, u2, times}
 use Rattle.ja_attributes.proofs.Completes.{Completes, times_stop, times_done}
 use Rattle.ja_class.specs.declared.fault.ClassFault.{ClassFault}

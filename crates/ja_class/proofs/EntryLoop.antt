@@ -4,7 +4,7 @@ use Rattle.std.proofs.lemmas.List.{append-nil}
 use Rattle.ja_class.specs.declared.first.FirstFault.{FirstFault}
 use Rattle.ja_class.specs.declared.first.FirstFault.TheVariants.{Unbuilt, Memory}
 use Rattle.ja_class.specs.Pool.{PoolEntry}
-use Rattle.ja_class.specs.Reading.{◌>>=◌, Fails, entry_from, entries_from}
+use Rattle.ja_class.specs.InnerReading.{◌>>=◌, Fails, entry_from, entries_from}
 
 -- the entries so far, before those that are still read
 abbrev pub after_front : List PoolEntry → Option (List PoolEntry × List ℕ) → Option (List PoolEntry × List ℕ)

@@ -7,7 +7,7 @@ use Rattle.ja_class.specs.declared.first.FirstOp.{FirstOp}
 use Rattle.ja_class.specs.declared.first.FirstOp.TheVariants.{Load, Store, Text, Pop, Source, Sink, Return}
 use Rattle.ja_class.specs.declared.first.frame.Frame.{Frame}
 use Rattle.ja_class.specs.Runnable.{height_after, set_after, Accepts, RunsFrom}
-use Rattle.ja_class.specs.Reading.{holds_of, frame_after, first_frame, is_return, runs, is_runnable}
+use Rattle.ja_class.specs.InnerReading.{holds_of, frame_after, first_frame, is_return, runs, is_runnable}
 use Rattle.ja_class.proofs.Exact.{some_is, guard_holds}
 use Rattle.ja_class.proofs.PoolLaws.{and_holds}
 

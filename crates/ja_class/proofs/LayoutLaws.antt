@@ -8,7 +8,7 @@ use Rattle.std.proofs.lemmas.List.{length-append, append-nil, nil_from_length}
 use Rattle.std.proofs.lemmas.List.Concat.{flat_map-cons}
 use Rattle.ja_class.specs.Pool.{PoolEntry, Utf8, Class, String, Methodref, NameAndType}
 use Rattle.ja_class.specs.FirstForm.{CodeAttribute, MethodInfo, ClassFile, u2, u4, entry_bytes, code_content, attribute_bytes, method_bytes, spelling}
-use Rattle.ja_class.specs.Reading.{◌>>=◌, number_at, after_number, sized_at, pair_at, tagged_at, entry_from, entries_from, pool_from, version_from, class_from, content_from, attribute_from, method_from, file_from}
+use Rattle.ja_class.specs.InnerReading.{◌>>=◌, number_at, after_number, sized_at, pair_at, tagged_at, entry_from, entries_from, pool_from, version_from, class_from, content_from, attribute_from, method_from, file_from}
 use Rattle.ja_class.proofs.Exact.{IsBytes, IsBytes-rest, bind_some, some_is, chosen, guard_holds, guard_fails, Takes, Takes-then, Exact, Exactly, both, Exact-both, Exact-behind, before, Exact-before, Exactly-both, Exact-same, mapped, mapped_takes, mapped_again, Exact-mapped, wide16, wide32, number16, number32, Exactly-number, Exact-sized}
 use Rattle.ja_class.proofs.CodeLaws.{head}
 

@@ -12,7 +12,7 @@ use Rattle.ja_class.specs.declared.first.FirstOp.TheVariants as op
 use Rattle.ja_class.specs.Pool.{PoolEntry, Utf8, Class, String, Methodref, NameAndType, entry_at, IsText, IsClassNamed, IsNameAndType, IsEntryOf}
 use Rattle.ja_class.specs.Instruction.{bytes_of, IsCodeFrom}
 use Rattle.ja_class.specs.FirstForm.{CodeAttribute, ClassFile, HoldsMethod, IsFirstForm, u2, u4, entry_bytes, code_content, method_bytes, spelling}
-use Rattle.ja_class.specs.Reading.{◌>>=◌, Gives, text_at, class_at, is_this, is_allowed, member_at, code_from, has_numbers, has_names, is_program_name, program_name, is_runnable, runnable_code, method_in, file_from, method_from_bytes}
+use Rattle.ja_class.specs.InnerReading.{◌>>=◌, Gives, text_at, class_at, is_this, is_allowed, member_at, code_from, has_numbers, has_names, is_program_name, program_name, is_runnable, runnable_code, method_in, file_from, method_from_bytes}
 use Rattle.ja_class.proofs.Exact.{IsBytes, IsBytes-drop, IsBytes-take, bind_some, some_is, guard_holds}
 use Rattle.ja_class.proofs.PoolLaws.{and_holds, same_bytes, bytes_same, within, text_takes, text_again, class_takes, class_again, this_takes, this_again, member_takes, member_again}
 use Rattle.ja_class.proofs.Utf8Laws.{utf8_takes, utf8_again}

@@ -5,7 +5,7 @@ use Rattle.std.proofs.lemmas.Slice.Eq.{bytes_eq-Decides}
 use Rattle.ja_class.specs.Pool.{PoolEntry, Utf8, Class, String, Methodref, NameAndType, entry_at, IsClassNamed, IsNameAndType, IsTaintMethod, IsSource, IsSink}
 use Rattle.ja_class.specs.declared.first.FirstOp.{FirstOp}
 use Rattle.ja_class.specs.declared.first.FirstOp.TheVariants as op
-use Rattle.ja_class.specs.Reading.{◌>>=◌, text_in, text_at, name_in, class_at, is_this, member_named, member_in, member_at, call_in, call_at, constant_in, constant_at}
+use Rattle.ja_class.specs.InnerReading.{◌>>=◌, text_in, text_at, name_in, class_at, is_this, member_named, member_in, member_at, call_in, call_at, constant_in, constant_at}
 use Rattle.ja_class.proofs.Exact.{bind_some, chosen, guard_holds, some_is}
 
 pub and_holds : (a b : Bool) → (a && b) ≡ true → (a ≡ true) × (b ≡ true)

@@ -8,8 +8,8 @@ use Rattle.std.specs.List.{list_all}
 use Rattle.std.proofs.lemmas.Option.{slice_get-map, slice_get_past, slice_get_read}
 use Rattle.ja_class.specs.Pool.{PoolEntry, entry_at}
 use Rattle.ja_class.specs.declared.first.constant.Constant.{Constant}
-use Rattle.ja_class.specs.Views.{entry_view, entries}
-use Rattle.ja_class.specs.Reading.{holds_of, left_after, is_utf8, frame_after, is_return, runs}
+use Rattle.ja_class.specs.InnerViews.{entry_view, entries}
+use Rattle.ja_class.specs.InnerReading.{holds_of, left_after, is_utf8, frame_after, is_return, runs}
 use Rattle.ja_class.specs.declared.first.FirstInstr.{FirstInstr}
 use Rattle.ja_class.specs.declared.first.frame.Frame.{Frame}
 

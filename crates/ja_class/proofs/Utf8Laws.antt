@@ -4,7 +4,7 @@ use Rattle.std.specs.List.{flat_map, AllByRecursion}
 use Rattle.std.proofs.lemmas.Bool.{leb-true, le-leb, lt-leb, eqb-true, ne_eqb}
 use Rattle.std.proofs.lemmas.List.Concat.{flat_map-cons}
 use Rattle.ja_class.specs.Pool.{IsContinuation, IsCharacter, IsModifiedUtf8}
-use Rattle.ja_class.specs.Reading.{left_after, is_utf8}
+use Rattle.ja_class.specs.InnerReading.{left_after, is_utf8}
 use Rattle.ja_class.proofs.Exact.{chosen, guard_holds, some_is}
 use Rattle.ja_class.proofs.PoolLaws.{and_holds}
 use Rattle.ja_class.proofs.FrameLaws.{holds_takes}

@@ -2,8 +2,8 @@ pub mod Runnable
 pub mod Pool
 pub mod Instruction
 pub mod FirstForm
-pub mod Views
-pub mod Reading
+pub mod InnerViews
+pub mod InnerReading
 pub mod Faults
 pub mod Member
 pub mod Meaning

@@ -13,7 +13,7 @@ use Rattle.ja_code.specs.Opcode.{form_at, is_refused}
 use Rattle.ja_code.specs.Bytes.{u2, u4_at, far, places, rank, padding, tag_at, names}
 use Rattle.ja_code.specs.Grammar.{Takes, narrow, widened, IsInstr}
 use Rattle.ja_code.specs.Faults.{Check, first_failing, has, right, unless, is_handle, front_size, size_at, least_key, greatest_key, pair_count, can_widen, wide_size, index_checks, operand_checks, instr_checks}
-use Rattle.ja_code.specs.Reading.{wide_operands, operands_at, instr_of, instr_at}
+use Rattle.ja_code.specs.InnerReading.{wide_operands, operands_at, instr_of, instr_at}
 use Rattle.ja_code.proofs.Pieces.{places_same, u4_same}
 
 -- checks that pass

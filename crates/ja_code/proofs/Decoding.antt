@@ -12,7 +12,7 @@ use Rattle.ja_code.specs.declared.fault.CodeFault.{CodeFault}
 use Rattle.ja_code.specs.declared.fault.CodeFault.TheVariants.{BadOpcode, RefusedOpcode, CodeEnd, BadOperand, BadBranch, BadHandler, Memory}
 use Rattle.ja_code.specs.Grammar.{IsInstr, AreInstrs, is_start}
 use Rattle.ja_code.specs.Faults.{first_failing, instr_checks, IsFault, IsCause}
-use Rattle.ja_code.specs.Reading.{marked, instr_with, instr_at, Fails}
+use Rattle.ja_code.specs.InnerReading.{marked, instr_with, instr_at, Fails}
 use Rattle.ja_code.proofs.Sound.{instr_is}
 
 -- nothing is marked at first

@@ -8,7 +8,7 @@ use Rattle.ja_code.specs.declared.fault.CodeFault.{CodeFault}
 use Rattle.ja_code.specs.declared.fault.CodeFault.TheVariants.{BadOpcode, RefusedOpcode, CodeEnd, BadOperand, BadBranch, BadHandler, Memory}
 use Rattle.ja_code.specs.Grammar.{AreInstrs, is_start, Spells}
 use Rattle.ja_code.specs.Faults.{Check, first_failing, branch_checks, handler_checks, IsFault, IsCause, Answers}
-use Rattle.ja_code.specs.Reading.{marked, Fails}
+use Rattle.ja_code.specs.InnerReading.{marked, Fails}
 use Rattle.ja_code.proofs.Passing.{pass}
 use Rattle.ja_code.proofs.Whole.{branches_hold, handlers_hold, answer, answer_spelled, answer_fault, Due, due}
 use Rattle.ja_code.proofs.Decoding.{cause_from}

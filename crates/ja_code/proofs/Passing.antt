@@ -6,7 +6,7 @@ use Rattle.ja_code.specs.declared.form.Form.TheVariants.{Increment, TableSwitch,
 use Rattle.ja_code.specs.declared.fault.CodeFault.{CodeFault}
 use Rattle.ja_code.specs.Number.{ret}
 use Rattle.ja_code.specs.Opcode.{form_at}
-use Rattle.ja_code.specs.Reading.{opcode_at}
+use Rattle.ja_code.specs.InnerReading.{opcode_at}
 use Rattle.ja_code.proofs.Rows.{has_form}
 use Rattle.ja_code.specs.Faults.{Check, first_failing, has, right, unless, front_size, size_at, least_key, greatest_key, pair_count, can_widen, wide_size, operand_checks}
 

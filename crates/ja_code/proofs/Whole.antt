@@ -10,7 +10,7 @@ use Rattle.ja_code.specs.declared.fault.CodeFault.{CodeFault}
 use Rattle.ja_code.specs.declared.fault.CodeFault.TheVariants.{BadBranch, BadHandler}
 use Rattle.ja_code.specs.Grammar.{IsInstr, AreInstrs, is_start, leads_to_starts, is_handler, Spells}
 use Rattle.ja_code.specs.Faults.{Check, first_failing, instr_checks, branch_checks, handler_checks, IsFault}
-use Rattle.ja_code.specs.Reading.{instr_at}
+use Rattle.ja_code.specs.InnerReading.{instr_at}
 use Rattle.ja_code.proofs.Passing.{pass}
 use Rattle.ja_code.proofs.Sound.{instr_is}
 use Rattle.ja_code.proofs.Complete.{goes, instr_reads, instr_length}

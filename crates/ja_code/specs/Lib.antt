@@ -5,4 +5,4 @@ pub mod Behaviour
 pub mod Bytes
 pub mod Grammar
 pub mod Faults
-pub mod Reading
+pub mod InnerReading

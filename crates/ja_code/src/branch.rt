@@ -2,7 +2,7 @@ ghost use Rattle.std.specs.Prelude.{◌≡◌};
 ghost use Rattle.ja_code.specs.Opcode.{form_at};
 ghost use Rattle.ja_code.specs.Grammar.{is_branch, leads_to_starts};
 ghost use Rattle.ja_code.specs.Faults.{first_failing, branch_checks};
-ghost use Rattle.ja_code.specs.Reading.{marked, Passes};
+ghost use Rattle.ja_code.specs.InnerReading.{marked, Passes};
 
 use crate::fault::CodeFault;
 use crate::instr::RawInstr;

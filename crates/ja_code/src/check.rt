@@ -2,7 +2,7 @@ ghost use Rattle.std.specs.Prelude.{◌≡◌, ◌+◌, ◌<◌, ◌≤◌, leng
 ghost use Rattle.ja_code.specs.Bytes.{tag_at, names};
 ghost use Rattle.ja_code.specs.Opcode.{form_at};
 ghost use Rattle.ja_code.specs.Faults.{first_failing, has, front_size, size_at, index_checks, array_checks, dimension_checks, table_checks, lookup_checks, wide_checks, operand_checks, instr_checks};
-ghost use Rattle.ja_code.specs.Reading.{Passes, Finds, opcode_at};
+ghost use Rattle.ja_code.specs.InnerReading.{Passes, Finds, opcode_at};
 
 use crate::bytes::{gap, place, u2, u4};
 use crate::fault::CodeFault;

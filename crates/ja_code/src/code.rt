@@ -4,7 +4,7 @@ ghost use Rattle.ja_code.specs.declared.fault.CodeFault.{CodeFault};
 ghost use Rattle.ja_code.specs.declared.handler.RawHandler.{RawHandler};
 ghost use Rattle.ja_code.specs.Grammar.{AreInstrs, is_start, Spells};
 ghost use Rattle.ja_code.specs.Faults.{IsFault, IsCause, Answers};
-ghost use Rattle.ja_code.specs.Reading.{marked};
+ghost use Rattle.ja_code.specs.InnerReading.{marked};
 
 use crate::branch::check_branches;
 use crate::fault::CodeFault;

@@ -1,7 +1,7 @@
 ghost use Rattle.std.specs.Prelude.{◌≡◌, ◌<◌, ◌^◌, length};
 ghost use Rattle.ja_code.specs.Grammar.{is_handler};
 ghost use Rattle.ja_code.specs.Faults.{first_failing, handler_checks};
-ghost use Rattle.ja_code.specs.Reading.{marked, Passes};
+ghost use Rattle.ja_code.specs.InnerReading.{marked, Passes};
 
 use crate::check::{is_named, tag_of};
 use crate::fault::CodeFault;

@@ -1,7 +1,7 @@
 ghost use Rattle.std.specs.Prelude.{◌≡◌, ◌<◌, ◌≤◌, ◌^◌, length};
 ghost use Rattle.ja_code.specs.Grammar.{operand_at};
 ghost use Rattle.ja_code.specs.Faults.{first_failing, instr_checks};
-ghost use Rattle.ja_code.specs.Reading.{Gives, instr_at};
+ghost use Rattle.ja_code.specs.InnerReading.{Gives, instr_at};
 
 use crate::check::{checked_form, len_of};
 use crate::fault::CodeFault;
@@ -47,7 +47,7 @@ impl RawInstr {
 pub type RawInstrs = Seq<RawInstr>;
 
 /// The instruction at the front of the bytes, which are those of the code from `pc` on.
-#[tactic(auto, unfolding(crate::specs::Reading::instr_at))]
+#[tactic(auto, unfolding(crate::specs::InnerReading::instr_at))]
 pub(crate) fn instr_at(
     alloc: Global,
     pc: u32,

@@ -2,7 +2,7 @@ ghost use Rattle.std.specs.Prelude.{◌≡◌, ℕ, ◌+◌, ◌*◌, ◌≤◌,
 ghost use Rattle.ja_code.specs.Bytes.{far, places};
 ghost use Rattle.ja_code.specs.Opcode.{form_at};
 ghost use Rattle.ja_code.specs.Faults.{front_size, size_at, wide_size};
-ghost use Rattle.ja_code.specs.Reading.{operands_at, wide_operands};
+ghost use Rattle.ja_code.specs.InnerReading.{operands_at, wide_operands};
 
 use crate::bytes::{far_target, gap, near_target, place, u2, u4};
 use crate::form::Form;
@@ -59,7 +59,7 @@ fn targets_of(alloc: Global, pc: u32, bytes: &[u8], table: &Table) -> Result<Num
 }
 
 /// The operands of `tableswitch` at `pc`, whose bytes are there.
-#[tactic(auto, unfolding(crate::specs::Faults::size_at, crate::specs::Reading::operands_at))]
+#[tactic(auto, unfolding(crate::specs::Faults::size_at, crate::specs::InnerReading::operands_at))]
 fn table_operands(alloc: Global, pc: u32, bytes: &[u8]) -> Result<Numbers, Memory>
     requires { size_at Form.TableSwitch pc bytes.now ≤ length bytes.now }
     ensures { IfOk result (λ operands. operands ≡ operands_at Form.TableSwitch pc bytes.now) }
@@ -76,7 +76,7 @@ fn table_operands(alloc: Global, pc: u32, bytes: &[u8]) -> Result<Numbers, Memor
 }
 
 /// The operands of `lookupswitch` at `pc`, whose bytes are there.
-#[tactic(auto, unfolding(crate::specs::Faults::size_at, crate::specs::Reading::operands_at))]
+#[tactic(auto, unfolding(crate::specs::Faults::size_at, crate::specs::InnerReading::operands_at))]
 fn lookup_operands(alloc: Global, pc: u32, bytes: &[u8]) -> Result<Numbers, Memory>
     requires { size_at Form.LookupSwitch pc bytes.now ≤ length bytes.now }
     ensures { IfOk result (λ operands. operands ≡ operands_at Form.LookupSwitch pc bytes.now) }
@@ -91,7 +91,7 @@ fn lookup_operands(alloc: Global, pc: u32, bytes: &[u8]) -> Result<Numbers, Memo
 }
 
 /// The operands of an opcode behind `wide`, whose bytes are there.
-#[tactic(auto, unfolding(crate::specs::Faults::size_at, crate::specs::Reading::operands_at))]
+#[tactic(auto, unfolding(crate::specs::Faults::size_at, crate::specs::InnerReading::operands_at))]
 fn wide_operands(alloc: Global, bytes: &[u8]) -> Result<Numbers, Memory>
     requires { wide_size (form_at (slice_index bytes.now 1)) ≤ length bytes.now }
     ensures { IfOk result (λ operands. operands ≡ wide_operands (form_at (slice_index bytes.now 1)) bytes.now) }
@@ -104,7 +104,7 @@ fn wide_operands(alloc: Global, bytes: &[u8]) -> Result<Numbers, Memory>
 }
 
 /// The operands of an instruction at `pc`, whose bytes are there.
-#[tactic(auto, unfolding(crate::specs::Faults::size_at, crate::specs::Reading::operands_at))]
+#[tactic(auto, unfolding(crate::specs::Faults::size_at, crate::specs::InnerReading::operands_at))]
 pub(crate) fn operands_of(
     alloc: Global,
     form: Form,

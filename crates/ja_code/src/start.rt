@@ -1,5 +1,5 @@
 ghost use Rattle.std.specs.Prelude.{◌≡◌};
-ghost use Rattle.ja_code.specs.Reading.{marked};
+ghost use Rattle.ja_code.specs.InnerReading.{marked};
 
 /// Whether a place is marked as the start of an instruction. No place past the end is.
 pub(crate) fn is_marked(starts: &[bool], place: u64) -> bool

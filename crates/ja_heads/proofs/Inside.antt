@@ -9,7 +9,7 @@ use Rattle.ja_supertypes.specs.Supertypes.{AreSupertypes, IsAtOrAbove}
 use Rattle.ja_supertypes.proofs.Falls.{supertype-target}
 use Rattle.ja_heads.specs.Classes.{AreSupers}
 use Rattle.ja_heads.specs.Signatures.{numbers_of}
-use Rattle.ja_heads.specs.Supers.{with_own}
+use Rattle.ja_heads.specs.InnerSupers.{with_own}
 use Rattle.ja_heads.proofs.Ascending.{with_own-ascending, with_own-members}
 
 -- the number of a listed class is listed

@@ -3,4 +3,4 @@ pub mod Fields
 pub mod Entries
 pub mod Initializers
 pub mod Classes
-pub mod Supers
+pub mod InnerSupers

@@ -1,6 +1,6 @@
 ghost use Rattle.std.specs.Prelude.{◌≡◌, ◌<◌, ◌^◌, ◌++◌, ◌∷◌, [], All, IfOk, OnOk, filter, nat_lt};
 ghost use Rattle.ja_heads.specs.Signatures.{numbers_of};
-ghost use Rattle.ja_heads.specs.Supers.{with_own};
+ghost use Rattle.ja_heads.specs.InnerSupers.{with_own};
 
 use ja_base::{ClassId, Memory, Seq};
 use ja_ir::ClassIds;

@@ -15,7 +15,7 @@ use Rattle.ja_ir.specs.declared.head.HeadMethod.{HeadMethod}
 use Rattle.ja_hier.specs.declared.skip.Skip.{Skip}
 use Rattle.ja_hier.specs.declared.starts.Member.{Member}
 use Rattle.ja_hier.specs.Faults.{is_package_private}
-use Rattle.ja_hier.specs.Index.{member_names, places_from, ArePlaces, HasPlaces, first_place, is_field, is_method, is_hidden, IsHiddenAmong}
+use Rattle.ja_hier.specs.InnerIndex.{member_names, places_from, ArePlaces, HasPlaces, first_place, is_field, is_method, is_hidden, IsHiddenAmong}
 use Rattle.ja_hier.specs.LookUps.{skips}
 use Rattle.ja_hier.proofs.Indexed.{take-more}
 

@@ -8,7 +8,7 @@ use Rattle.ja_base.specs.Index.{numbers_at}
 use Rattle.ja_base.specs.declared.index.NumbersByName.{NumbersByName}
 use Rattle.ja_hier.specs.declared.starts.Member.TheVariants.{Method}
 use Rattle.ja_hier.specs.Faults.{Crosses, CrossesPackage, is_virtual}
-use Rattle.ja_hier.specs.Index.{HidesAt, IsIndexOf}
+use Rattle.ja_hier.specs.InnerIndex.{HidesAt, IsIndexOf}
 use Rattle.ja_hier.proofs.Indexed.{contains-map}
 
 -- what a method of a class does that redeclares a package-private method

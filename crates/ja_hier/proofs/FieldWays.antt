@@ -4,7 +4,7 @@ use Rattle.std.specs.Prelude.{Option, Some, None, Contains}
 use Rattle.std.proofs.lemmas.List.{get_or_default}
 use Rattle.std.proofs.lemmas.List.Elements.{Contains-get_or}
 use Rattle.ja_ir.specs.declared.head.ClassHead.{ClassHead}
-use Rattle.ja_hier.specs.Index.{LeadsOn}
+use Rattle.ja_hier.specs.InnerIndex.{LeadsOn}
 use Rattle.ja_hier.specs.LookUps.{field_in, IsDeclaredAbove, FieldSearch, nowhere, here, further}
 use Rattle.ja_supertypes.specs.Supertypes.{supertypes_of, IsDirect, IsAtOrAbove}
 use Rattle.ja_supertypes.proofs.Falls.{first-step, step-above, direct-target}

@@ -15,7 +15,7 @@ use Rattle.ja_base.specs.declared.index.NumbersByName.{NumbersByName}
 use Rattle.ja_hier.specs.declared.skip.Skip.{Skip}
 use Rattle.ja_hier.specs.declared.starts.Member.{Member}
 use Rattle.ja_hier.specs.declared.starts.Member.TheVariants.{Field, Method}
-use Rattle.ja_hier.specs.Index.{member_names, Covers, IsIndexOf, IsNoted}
+use Rattle.ja_hier.specs.InnerIndex.{member_names, Covers, IsIndexOf, IsNoted}
 use Rattle.ja_hier.specs.Members.{count_of}
 use Rattle.ja_hier.specs.LookUps.{fields_of, methods_of, field_in, method_in, skips}
 use Rattle.ja_supertypes.specs.Supertypes.{AreSupertypes}

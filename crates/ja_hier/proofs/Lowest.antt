@@ -3,7 +3,7 @@ use Rattle.std.proofs.Common.{rules, ◌≡◌, ℕ, ◌+◌, ◌<◌, ◌≤◌
 use Rattle.std.specs.Prelude.{Option, Some, None, Contains, IfSome, IfNone}
 use Rattle.std.proofs.lemmas.Bool.{cases_lt}
 use Rattle.std.proofs.lemmas.List.{get_or_default}
-use Rattle.ja_hier.specs.Index.{IsBelow, IsLowest}
+use Rattle.ja_hier.specs.InnerIndex.{IsBelow, IsLowest}
 
 -- class e is not lower than the lowest so far
 abbrev pub IsNotLower : (Above : (c d : ℕ) → Type 0) → (lowest : Option ℕ) → (e : ℕ) → Type 0

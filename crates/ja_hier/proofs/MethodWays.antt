@@ -7,7 +7,7 @@ use Rattle.ja_base.specs.declared.index.NumbersByName.{NumbersByName}
 use Rattle.ja_hier.specs.declared.skip.Skip.TheVariants.{NoDefault}
 use Rattle.ja_hier.specs.declared.starts.Member.TheVariants.{Method}
 use Rattle.ja_hier.proofs.Indexed.{method-noted}
-use Rattle.ja_hier.specs.Index.{Covers, Inherits, IsBelow, IsSomePlace, IsIndexOf, IsSomeCandidate, Overrides, IsOverridden, IsSomeLeft, IsOtherLeft, IsLeftNumber}
+use Rattle.ja_hier.specs.InnerIndex.{Covers, Inherits, IsBelow, IsSomePlace, IsIndexOf, IsSomeCandidate, Overrides, IsOverridden, IsSomeLeft, IsOtherLeft, IsLeftNumber}
 use Rattle.ja_hier.specs.LookUps.{method_in, answer_at, IsLeft, FindsDefault, one, nothing_left, several, ClassSearch, declared as declared-in, inherited, at_end, Finds, in_no_class}
 use Rattle.ja_ir.specs.declared.class.MethodAt.TheVariants.{Library as AtLibrary}
 use Rattle.ja_supertypes.specs.Faults.{IsCyclic, IsNowhere}

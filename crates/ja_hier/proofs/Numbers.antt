@@ -10,7 +10,7 @@ use Rattle.ja_ir.specs.declared.head.HeadMethod.{HeadMethod}
 use Rattle.ja_ir.specs.Lookup.{is_abstract}
 use Rattle.ja_hier.specs.declared.skip.Skip.{Skip}
 use Rattle.ja_hier.specs.declared.starts.Member.TheVariants.{Field, Method}
-use Rattle.ja_hier.specs.Index.{AreStarts}
+use Rattle.ja_hier.specs.InnerIndex.{AreStarts}
 use Rattle.ja_hier.specs.LookUps.{fields_of, methods_of, field_in, field_number, flags_of, method_in, method_number, answer_at, answer_by, skips}
 use Rattle.ja_hier.specs.Members.{count_of}
 

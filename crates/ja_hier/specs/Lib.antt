@@ -1,4 +1,4 @@
 pub mod Faults
 pub mod LookUps
 pub mod Members
-pub mod Index
+pub mod InnerIndex

@@ -1,6 +1,6 @@
 //! The choice among classes that declare a member, by their bits.
 ghost use Rattle.std.specs.Prelude.{ℕ, ◌<◌, ◌↔◌, length, Contains, IfSome, IsTrue};
-ghost use Rattle.ja_hier.specs.Index.{Covers, IsBelow};
+ghost use Rattle.ja_hier.specs.InnerIndex.{Covers, IsBelow};
 ghost use Rattle.ja_supertypes.specs.Supertypes.{IsSuperclass, IsSupertype};
 
 use ja_supertypes::Classes;

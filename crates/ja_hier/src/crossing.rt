@@ -3,7 +3,7 @@ ghost use Rattle.ja_ir.specs.declared.head.HeadMethod.{HeadMethod};
 ghost use Rattle.ja_hier.specs.declared.starts.Member.TheVariants.{Method};
 ghost use Rattle.ja_supertypes.specs.Faults.{IsFirst, IsNowhere};
 ghost use Rattle.ja_hier.specs.Faults.{IsFault, IsCrossing, Hides, Crosses, CrossesPackage};
-ghost use Rattle.ja_hier.specs.Index.{first_place, is_hidden, member_names, HasPlaces, HidesAt, IsHiddenAmong, IsIndexed};
+ghost use Rattle.ja_hier.specs.InnerIndex.{first_place, is_hidden, member_names, HasPlaces, HidesAt, IsHiddenAmong, IsIndexed};
 
 use crate::HierFault;
 use crate::above::fewer;

@@ -1,6 +1,6 @@
 ghost use Rattle.std.specs.Prelude.{◌≡◌, ℕ, ◌<◌, ◌↔◌, ◌+◌, [], ◌∷◌, Some, None, length, slice_get, IsTrue, IfSome, IfNone};
 ghost use Rattle.ja_base.specs.Index.{numbers_at};
-ghost use Rattle.ja_hier.specs.Index.{first_place, is_field, Covers, DeclaresFor, IsBetween, IsIndexed, IsLowest, IsNowhereOn, IsStraight, LeadsOn, Meets};
+ghost use Rattle.ja_hier.specs.InnerIndex.{first_place, is_field, Covers, DeclaresFor, IsBetween, IsIndexed, IsLowest, IsNowhereOn, IsStraight, LeadsOn, Meets};
 ghost use Rattle.ja_supertypes.specs.Supertypes.{IsSupertype};
 ghost use Rattle.ja_hier.specs.LookUps.{field_in, field_number, FieldSearch, FindsField, IsDeclaredAbove};
 

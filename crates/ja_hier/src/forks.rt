@@ -1,6 +1,6 @@
 //! Ways up the supertypes of a class on which there is no choice.
 ghost use Rattle.std.specs.Prelude.{◌≡◌, ℕ, ◌∷◌, [], ◌<◌, ◌≤◌, ◌^◌, length, IfOk, IfSome};
-ghost use Rattle.ja_hier.specs.Index.{AreForks, IsStraight};
+ghost use Rattle.ja_hier.specs.InnerIndex.{AreForks, IsStraight};
 ghost use Rattle.ja_supertypes.specs.Faults.{AreClasses};
 ghost use Rattle.ja_supertypes.specs.Supertypes.{supertypes_of};
 ghost use Rattle.ja_base.specs.Limit.{max_numbered};

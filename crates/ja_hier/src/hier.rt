@@ -1,7 +1,7 @@
 ghost use Rattle.std.specs.Prelude.{◌≡◌, ℕ, List, ◌<◌, ◌≤◌, ◌^◌, ◌↔◌, Some, None, length, sum_by, take, IsTrue, IfOk, IfErr, IfSome, IfNone, OnOk};
 ghost use Rattle.ja_hier.specs.declared.skip.Skip.TheVariants.{NoMethod, NotVirtual};
 ghost use Rattle.ja_hier.specs.Faults.{IsFault, IsHierarchy};
-ghost use Rattle.ja_hier.specs.Index.{AreForks, ArePlaces, AreStarts, IsIndexed, IsIndexOf};
+ghost use Rattle.ja_hier.specs.InnerIndex.{AreForks, ArePlaces, AreStarts, IsIndexed, IsIndexOf};
 ghost use Rattle.ja_hier.specs.declared.starts.Member.TheVariants.{Method};
 ghost use Rattle.ja_hier.specs.Members.{count_of, IsNumbered};
 ghost use Rattle.ja_hier.specs.LookUps.{FindsField, Finds};
@@ -39,7 +39,7 @@ impl Model for Hier {
 
     ghost Value = { List ClassHead };
 
-    ghost use Rattle.ja_hier.specs.Index.{IsIndexed};
+    ghost use Rattle.ja_hier.specs.InnerIndex.{IsIndexed};
 
     ghost view = { λ hier. hier.tables.classes };
 

@@ -1,6 +1,6 @@
 //! For each name of a member the classes that declare one, and its places in each class.
 ghost use Rattle.std.specs.Prelude.{◌≡◌, ◌<◌, ◌∷◌, [], Some, slice_get, Contains, IsTrue, IfOk, OnOk};
-ghost use Rattle.ja_hier.specs.Index.{member_names, ArePlaces, HasPlaces, IsIndexOf, IsNoted};
+ghost use Rattle.ja_hier.specs.InnerIndex.{member_names, ArePlaces, HasPlaces, IsIndexOf, IsNoted};
 ghost use Rattle.ja_hier.specs.Members.{count_of};
 
 use crate::starts::{Member, count_of};

@@ -3,7 +3,7 @@ ghost use Rattle.ja_hier.specs.declared.starts.Member.TheVariants.{Method};
 ghost use Rattle.ja_hier.specs.Members.{count_of};
 ghost use Rattle.ja_base.specs.Index.{numbers_at};
 ghost use Rattle.ja_hier.specs.declared.skip.Skip.TheVariants.{NoDefault};
-ghost use Rattle.ja_hier.specs.Index.{first_place, is_method, Covers, Inherits, IsLowest, IsIndexed, IsSomeCandidate, IsSomePlace, IsOverridden, Overrides, IsSomeLeft, IsOtherLeft, IsLeftNumber};
+ghost use Rattle.ja_hier.specs.InnerIndex.{first_place, is_method, Covers, Inherits, IsLowest, IsIndexed, IsSomeCandidate, IsSomePlace, IsOverridden, Overrides, IsSomeLeft, IsOtherLeft, IsLeftNumber};
 ghost use Rattle.ja_supertypes.specs.Supertypes.{IsSuperclass};
 ghost use Rattle.ja_hier.specs.LookUps.{method_in, method_number, answer_at, ClassSearch, FindsDefault, Finds};
 

@@ -1,5 +1,5 @@
 ghost use Rattle.std.specs.Prelude.{◌≡◌, ◌≤◌, ◌^◌, ◌↔◌, sum_by, IfOk, IsTrue};
-ghost use Rattle.ja_hier.specs.Index.{AreStarts};
+ghost use Rattle.ja_hier.specs.InnerIndex.{AreStarts};
 ghost use Rattle.ja_hier.specs.Members.{count_of, IsNumbered};
 ghost use Rattle.ja_base.specs.Limit.{max_numbered};
 

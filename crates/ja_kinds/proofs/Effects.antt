@@ -16,7 +16,7 @@ use Rattle.ja_kinds.specs.declared.effect.Effect.{Effect}
 use Rattle.ja_kinds.specs.declared.reading.Part.TheVariants.{Nothing, Constant, Field, Method}
 use Rattle.ja_kinds.specs.Effect.{constant_kind, kind_of_type, NamesField, NamesMethod, fixed_effect, loaded_effect, field_effect, method_effect, HasEffect, fixed, loaded, field, method}
 use Rattle.ja_code.specs.Grammar.{operand_at}
-use Rattle.ja_kinds.specs.Reading.{part_of, FindsField, FindsMethod, Finds}
+use Rattle.ja_kinds.specs.InnerReading.{part_of, FindsField, FindsMethod, Finds}
 
 -- what an answer is has what it equals
 pub ok_is : {A E : Type 0} (P : A → Type 0) (x : A) (r : Result A E) → IfOk r (λ found. found ≡ x) → P x → IfOk r P

@@ -13,7 +13,7 @@ use Rattle.ja_code.specs.declared.code.Code.{Code}
 use Rattle.ja_kinds.specs.declared.state.KindState.{KindState}
 use Rattle.ja_kinds.specs.Solution.{fault_at, IsRight, IsFirst, here, later, is_too_large, IsLeast, IsFault, instruction}
 use Rattle.ja_kinds.specs.Answer.{known_at}
-use Rattle.ja_kinds.specs.Solving.{state_at, IsFaultAt, IsFirstOf, AreKindsIn}
+use Rattle.ja_kinds.specs.InnerSolving.{state_at, IsFaultAt, IsFirstOf, AreKindsIn}
 use Rattle.ja_kinds.proofs.Hands.{one_of_more}
 use Rattle.ja_kinds.proofs.Visits.{OneEffect, one_deed}
 

@@ -10,8 +10,8 @@ use Rattle.ja_code.specs.declared.behaviour.Behaviour.{Behaviour}
 use Rattle.ja_kinds.specs.Effect.{IsOneOf, targets_of}
 use Rattle.ja_code.specs.Behaviour.{branches}
 use Rattle.ja_kinds.specs.Solution.{HandledAt}
-use Rattle.ja_kinds.specs.Merge.{is_below, merge}
-use Rattle.ja_kinds.specs.Solving.{state_at, IsWide, AreWide, room_of, room, Catches, Rises, is_marked, Marks, Hands}
+use Rattle.ja_kinds.specs.InnerMerge.{is_below, merge}
+use Rattle.ja_kinds.specs.InnerSolving.{state_at, IsWide, AreWide, room_of, room, Catches, Rises, is_marked, Marks, Hands}
 use Rattle.ja_kinds.proofs.Order.{is_below_is, below_self, below_trans, merge_left, merge_right, merge_least, merge_wide, merge_falls}
 
 -- ---- one state is changed

@@ -15,7 +15,7 @@ use Rattle.ja_kinds.specs.declared.state.State.TheVariants.{Unreached, Known, Cl
 use Rattle.ja_kinds.specs.Frame.{same_kind, IsBelow, AreBelow, Below, local_at, cut_kind, cut, written, stored}
 use Rattle.ja_kinds.specs.Effect.{kinds_in, holds, exchanged, rearranged, with_stack, may_return, turned, is_wrong_depth}
 use Rattle.ja_kinds.specs.Solution.{accepted, handed, after, thrown_with, thrown}
-use Rattle.ja_kinds.specs.Solving.{IsWide}
+use Rattle.ja_kinds.specs.InnerSolving.{IsWide}
 use Rattle.ja_kinds.proofs.Order.{to_clash, below_length, pick}
 
 -- ---- locals

@@ -19,7 +19,7 @@ use Rattle.ja_class.specs.ClassFile.{MemberInfo, IsMethodInfo, AreMethods, Says,
 use Rattle.ja_kinds.specs.Effect.{IsOneOf}
 use Rattle.ja_kinds.specs.declared.frame.Frame.{Frame}
 use Rattle.ja_kinds.specs.Answer.{HasCode, code_size, IsFrame, HasFrame}
-use Rattle.ja_kinds.specs.Solving.{AreApart}
+use Rattle.ja_kinds.specs.InnerSolving.{AreApart}
 use Rattle.ja_kinds.proofs.Profile.{HasDeed, each_deed}
 use Rattle.ja_kinds.proofs.Starts.{code_length, code_apart}
 

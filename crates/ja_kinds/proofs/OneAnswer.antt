@@ -21,7 +21,7 @@ use Rattle.ja_kinds.specs.Frame.{IsBelow, AreBelow, Below}
 use Rattle.ja_kinds.specs.Effect.{Does, IsOneOf, kind_of_type}
 use Rattle.ja_kinds.specs.Solution.{fault_at, IsRight, IsFirst, here, later, IsLeast, IsFault, size, instruction, AreKinds}
 use Rattle.ja_kinds.specs.Answer.{parameter_kinds, IsFrame, HasFrame, known_of, known_at, AreKindsOf, IsFaultOf}
-use Rattle.ja_kinds.specs.Solving.{AreKindsIn}
+use Rattle.ja_kinds.specs.InnerSolving.{AreKindsIn}
 use Rattle.ja_kinds.proofs.Effects.{if_ok}
 use Rattle.ja_kinds.proofs.Visits.{OneEffect, one_deed}
 

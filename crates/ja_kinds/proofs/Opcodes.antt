@@ -10,7 +10,7 @@ use Rattle.ja_code.specs.declared.behaviour.Behaviour.{Behaviour}
 use Rattle.ja_kinds.specs.declared.reading.Part.{Part}
 use Rattle.ja_kinds.specs.declared.reading.Part.TheVariants as parts
 use Rattle.ja_code.specs.Behaviour.{behaviour_at, branches}
-use Rattle.ja_kinds.specs.Reading.{part_of}
+use Rattle.ja_kinds.specs.InnerReading.{part_of}
 use Rattle.ja_code.proofs.Rows.{no_form, no_behaviour}
 
 -- what of the pool the operands of a form name

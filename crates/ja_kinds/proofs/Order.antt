@@ -7,8 +7,8 @@ use Rattle.ja_base.specs.declared.java_type.Kind.TheVariants.{P1, P2, R, T}
 use Rattle.ja_kinds.specs.declared.state.State.{State}
 use Rattle.ja_kinds.specs.declared.state.State.TheVariants.{Unreached, Known, Clash}
 use Rattle.ja_kinds.specs.Frame.{same_kind, same_kinds, IsBelow, AreBelow, Below}
-use Rattle.ja_kinds.specs.Merge.{are_below, is_below, met_kind, met, merge}
-use Rattle.ja_kinds.specs.Solving.{IsWide, usable, usables, room_of}
+use Rattle.ja_kinds.specs.InnerMerge.{are_below, is_below, met_kind, met, merge}
+use Rattle.ja_kinds.specs.InnerSolving.{IsWide, usable, usables, room_of}
 
 -- ---- kinds
 

@@ -23,7 +23,7 @@ use Rattle.ja_kinds.specs.declared.effect.Effect.{Effect}
 use Rattle.ja_kinds.specs.declared.reading.Part.TheVariants as parts
 use Rattle.ja_kinds.specs.Effect.{kind_of_type, constant_kind, NamesField, NamesMethod, fixed_effect, loaded_effect, field_effect, method_effect, HasEffect, Does, IsOneOf}
 use Rattle.ja_kinds.specs.Effect as effects
-use Rattle.ja_kinds.specs.Reading.{part_of}
+use Rattle.ja_kinds.specs.InnerReading.{part_of}
 use Rattle.ja_kinds.proofs.Opcodes.{part_named, is_own, Fits, fitting}
 
 -- an instruction has an effect

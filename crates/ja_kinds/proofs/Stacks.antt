@@ -3,7 +3,7 @@ use Rattle.std.proofs.Common.{◌≡◌, ◌≢◌, suc, Bool, true, false, ◌&
 use Rattle.ja_base.specs.declared.java_type.Kind.{Kind}
 use Rattle.ja_base.specs.declared.java_type.Kind.TheVariants.{T}
 use Rattle.ja_kinds.specs.Frame.{same_kind, same_kinds}
-use Rattle.ja_kinds.specs.Merge.{are_below}
+use Rattle.ja_kinds.specs.InnerMerge.{are_below}
 
 no_and : (b c : Bool) → c ≡ false → (b && c) ≡ false
 no_and true c e = e

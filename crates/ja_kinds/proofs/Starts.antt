@@ -17,7 +17,7 @@ use Rattle.ja_kinds.specs.Effect.{IsOneOf}
 use Rattle.ja_kinds.specs.Solution.{HandledAt}
 use Rattle.ja_kinds.specs.Reached.{StartsAt}
 use Rattle.ja_kinds.specs.Answer.{code_size}
-use Rattle.ja_kinds.specs.Solving.{AreApart}
+use Rattle.ja_kinds.specs.InnerSolving.{AreApart}
 
 -- an instruction lies between two places
 record LiesIn (i : RawInstr) (from to : ℕ) : Type 0 where

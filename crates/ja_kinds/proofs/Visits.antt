@@ -14,9 +14,9 @@ use Rattle.ja_kinds.specs.declared.state.State.TheVariants.{Unreached}
 use Rattle.ja_code.specs.Behaviour.{behaviour_at}
 use Rattle.ja_kinds.specs.Frame.{Below}
 use Rattle.ja_kinds.specs.Effect.{HasEffect, Does, IsOneOf, LeadsTo}
-use Rattle.ja_kinds.specs.Reading.{Finds}
+use Rattle.ja_kinds.specs.InnerReading.{Finds}
 use Rattle.ja_kinds.specs.Solution.{HandledAt, after, thrown, entry_state, IsClosed, IsLeast}
-use Rattle.ja_kinds.specs.Solving.{state_at, AreWide, room, Rises, is_marked, Hands, AreApart, AreClean, Spreads, Visits, Sweeps, AreOnTheWay}
+use Rattle.ja_kinds.specs.InnerSolving.{state_at, AreWide, room, Rises, is_marked, Hands, AreApart, AreClean, Spreads, Visits, Sweeps, AreOnTheWay}
 use Rattle.ja_kinds.proofs.Order.{below_trans}
 use Rattle.ja_kinds.proofs.Monotone.{after_below, thrown_below}
 use Rattle.ja_kinds.proofs.Effects.{one_effect}

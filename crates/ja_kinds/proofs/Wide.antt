@@ -14,7 +14,7 @@ use Rattle.ja_kinds.specs.declared.state.State.TheVariants.{Unreached, Known, Cl
 use Rattle.ja_kinds.specs.Answer.{known_of}
 use Rattle.ja_kinds.specs.Frame.{AreBelow, Below, parameter_words}
 use Rattle.ja_kinds.specs.Solution.{after, thrown, entry_state, IsSolution, IsLeast}
-use Rattle.ja_kinds.specs.Solving.{IsWide}
+use Rattle.ja_kinds.specs.InnerSolving.{IsWide}
 use Rattle.ja_kinds.proofs.Monotone.{after_wide, thrown_wide}
 
 -- what is known at a place is known in its state

@@ -1,9 +1,9 @@
 pub mod Frame
 pub mod Effect
 pub mod Solution
-pub mod Merge
-pub mod Solving
-pub mod Reading
+pub mod InnerMerge
+pub mod InnerSolving
+pub mod InnerReading
 pub mod Answer
 pub mod Reached
 pub mod Moving

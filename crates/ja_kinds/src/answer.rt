@@ -4,7 +4,7 @@ ghost use Rattle.ja_kinds.specs.declared.fault.KindFault.TheVariants as faults;
 ghost use Rattle.ja_kinds.specs.declared.state.KindState.{KindState};
 ghost use Rattle.ja_kinds.specs.Solution.{IsFault};
 ghost use Rattle.ja_kinds.specs.Answer.{HasCode, known_of, known_at, AreKindsOf, IsFaultOf};
-ghost use Rattle.ja_kinds.specs.Solving.{state_at, AreApart, AreKindsIn};
+ghost use Rattle.ja_kinds.specs.InnerSolving.{state_at, AreApart, AreKindsIn};
 
 use crate::fault::KindFault;
 use crate::frame::Frame;

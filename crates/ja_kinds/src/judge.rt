@@ -1,7 +1,7 @@
 ghost use Rattle.std.specs.Prelude.{◌≡◌, length, IfOk};
 ghost use Rattle.ja_kinds.specs.Frame.{parameter_words};
 ghost use Rattle.ja_kinds.specs.Solution.{is_narrow, falls_off, is_too_large, fault_at};
-ghost use Rattle.ja_kinds.specs.Solving.{state_at, IsFaultAt, IsFirstOf};
+ghost use Rattle.ja_kinds.specs.InnerSolving.{state_at, IsFaultAt, IsFirstOf};
 ghost use Rattle.ja_kinds.specs.declared.state.State.TheVariants.{Known};
 
 use crate::effect::Effect;

@@ -1,6 +1,6 @@
 ghost use Rattle.std.specs.Prelude.{◌≡◌, length, IfOk};
 ghost use Rattle.ja_kinds.specs.declared.state.State.TheVariants.{Known};
-ghost use Rattle.ja_kinds.specs.Merge.{are_below, is_below, met_kind, met, merge};
+ghost use Rattle.ja_kinds.specs.InnerMerge.{are_below, is_below, met_kind, met, merge};
 
 use crate::locals::same_kind;
 use crate::stack::same_kinds;

@@ -2,7 +2,7 @@ ghost use Rattle.std.specs.Prelude.{◌≡◌, false, IfOk, IfSome, IfNone, IsTr
 ghost use Rattle.ja_pool.specs.Table.{tag_at, is_member_tag};
 ghost use Rattle.ja_kinds.specs.Effect.{constant_kind, kind_of_type};
 ghost use Rattle.ja_code.specs.Grammar.{operand_at};
-ghost use Rattle.ja_kinds.specs.Reading.{FindsField, FindsMethod};
+ghost use Rattle.ja_kinds.specs.InnerReading.{FindsField, FindsMethod};
 
 use crate::state::KindList;
 use ja_base::tag::{CLASS, FIELD, FLOAT, INTEGER, INTERFACE_METHOD, METHOD, STRING};

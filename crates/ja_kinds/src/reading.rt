@@ -2,7 +2,7 @@ ghost use Rattle.std.specs.Prelude.{◌≡◌, [], ◌∷◌, replicate, IfOk, S
 ghost use Rattle.ja_base.specs.declared.java_type.Kind.TheVariants.{P1, R};
 ghost use Rattle.ja_kinds.specs.declared.effect.Effect.TheVariants.{Exchanges};
 ghost use Rattle.ja_kinds.specs.Effect.{fixed_effect, loaded_effect, field_effect, receiver_of, method_effect, kinds_of, kinds_in, place_of};
-ghost use Rattle.ja_kinds.specs.Reading.{part_of, Finds};
+ghost use Rattle.ja_kinds.specs.InnerReading.{part_of, Finds};
 ghost use Rattle.ja_kinds.specs.declared.reading.Part.TheVariants.{Constant, Field, Method};
 
 use crate::effect::Effect;

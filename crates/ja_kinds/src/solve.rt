@@ -4,7 +4,7 @@ ghost use Rattle.ja_kinds.specs.declared.state.State.TheVariants.{Known};
 ghost use Rattle.ja_kinds.specs.Effect.{IsOneOf, LeadsTo, targets_of};
 ghost use Rattle.ja_code.specs.Behaviour.{goes_on, branches};
 ghost use Rattle.ja_kinds.specs.Solution.{HandledAt, after, thrown};
-ghost use Rattle.ja_kinds.specs.Solving.{state_at, IsWide, AreWide, Catches, Hands, Sweeps};
+ghost use Rattle.ja_kinds.specs.InnerSolving.{state_at, IsWide, AreWide, Catches, Hands, Sweeps};
 
 use crate::effect::Effect;
 use crate::frame::Frame;

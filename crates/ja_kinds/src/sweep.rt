@@ -4,7 +4,7 @@ ghost use Rattle.ja_pool.specs.Table.{Table};
 ghost use Rattle.ja_code.specs.declared.code.Code.{Code};
 ghost use Rattle.ja_kinds.specs.Effect.{IsOneOf};
 ghost use Rattle.ja_kinds.specs.Solution.{IsLeast};
-ghost use Rattle.ja_kinds.specs.Solving.{state_at, AreWide, AreApart, AreClean, Spreads, Visits, Sweeps, AreOnTheWay};
+ghost use Rattle.ja_kinds.specs.InnerSolving.{state_at, AreWide, AreApart, AreClean, Spreads, Visits, Sweeps, AreOnTheWay};
 
 use crate::entry::entry_state;
 use crate::frame::Frame;

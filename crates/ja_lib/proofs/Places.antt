@@ -7,7 +7,7 @@ use Rattle.ja_base.specs.Index.{number_if}
 use Rattle.ja_ir.specs.declared.row.LibRow.{LibRow}
 use Rattle.ja_lib.specs.declared.row.TableRow.{TableRow}
 use Rattle.ja_lib.specs.Rows.{is_for_class, is_for_method, is_for_desc, row_for}
-use Rattle.ja_lib.specs.Index.{place_for_each, places_from, said_by, first_at}
+use Rattle.ja_lib.specs.InnerIndex.{place_for_each, places_from, said_by, first_at}
 
 -- one more class of a row
 pub place_for_each-last : (place : ℕ) (listed : List (List ℕ)) (last class : List ℕ)

@@ -9,7 +9,7 @@ use Rattle.toml.proofs.Views.{items_view-drop}
 use Rattle.ja_lib.specs.declared.part.PartFault.{PartFault}
 use Rattle.ja_lib.specs.declared.part.PartFault.TheVariants.{Wrong, Memory}
 use Rattle.ja_lib.specs.File.{read_items, SpellAll, IsFirstWrong, position, new_position, tables_in, tables_at, IsDesc, MayBeDesc}
-use Rattle.ja_lib.specs.Reading.{Finds}
+use Rattle.ja_lib.specs.InnerReading.{Finds}
 
 -- where a thing needs a part that is not there, there is no thing
 pub finds_without : {A B : Type 0} (IsPart : A → Type 0) (IsThing : B → Type 0) (part : (y : B) → IsThing y → (x : A) × IsPart x) (fault : PartFault)

@@ -3,5 +3,5 @@ pub mod Rows
 pub mod Defaults
 pub mod File
 pub mod Means
-pub mod Reading
-pub mod Index
+pub mod InnerReading
+pub mod InnerIndex

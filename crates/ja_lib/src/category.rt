@@ -6,7 +6,7 @@ ghost use Rattle.toml.specs.View.{view, items_view};
 ghost use Rattle.ja_ir.specs.Categories.{count_of_names};
 ghost use Rattle.ja_lib.specs.Content.{all_marks};
 ghost use Rattle.ja_lib.specs.File.{categories_at, categories_in, category_at, chosen_in, is_category, is_category_byte, is_name_length, marks_at, marks_of, new_category, new_mark, place_among};
-ghost use Rattle.ja_lib.specs.Reading.{Gives, IsCategoryFault, seen_of};
+ghost use Rattle.ja_lib.specs.InnerReading.{Gives, IsCategoryFault, seen_of};
 ghost use Rattle.ja_base.specs.Limit.{max_categories};
 
 use crate::TableFault;

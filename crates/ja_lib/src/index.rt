@@ -1,7 +1,7 @@
 //! The places of a table's rows by the classes that they list.
 ghost use Rattle.std.specs.Prelude.{◌≡◌, ◌++◌, List, ℕ, IfOk, OnOk};
 ghost use Rattle.ja_base.specs.Index.{numbers_at};
-ghost use Rattle.ja_lib.specs.Index.{place_for_each, IsIndexOf};
+ghost use Rattle.ja_lib.specs.InnerIndex.{place_for_each, IsIndexOf};
 
 use crate::TableRow;
 use ja_base::{Memory, Name, NumbersByName};

@@ -4,7 +4,7 @@ ghost use Rattle.std.specs.List.{list_any};
 ghost use Rattle.toml.specs.Data.{get_member};
 ghost use Rattle.toml.specs.View.{table_view};
 ghost use Rattle.ja_lib.specs.File.{keys_among};
-ghost use Rattle.ja_lib.specs.Reading.{seen_of};
+ghost use Rattle.ja_lib.specs.InnerReading.{seen_of};
 
 use toml::Value;
 

@@ -3,7 +3,7 @@ ghost use Rattle.std.specs.Prelude.{◌≡◌, ◌≤◌, IfOk, IfErr, MatchOpti
 ghost use Rattle.toml.specs.Data.{Members, get_member};
 ghost use Rattle.toml.specs.View.{table_view, items_view};
 ghost use Rattle.ja_lib.specs.File.{IsDocument, IsTableFile, IsFaultOf, SpellsContent, IsFaultIn, tables_in, tables_at, SpellAll, SpellsRow, SpellsEntry};
-ghost use Rattle.ja_lib.specs.Reading.{AreTables, IsRowFault, IsEntryFault};
+ghost use Rattle.ja_lib.specs.InnerReading.{AreTables, IsRowFault, IsEntryFault};
 ghost use Rattle.ja_base.specs.Limit.{max_categories};
 
 use crate::category::categories_of;

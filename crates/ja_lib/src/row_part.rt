@@ -2,7 +2,7 @@
 ghost use Rattle.std.specs.Prelude.{◌≡◌, ◌≤◌, length};
 ghost use Rattle.toml.specs.View.{table_view};
 ghost use Rattle.ja_lib.specs.File.{SpellsMeaning, SpellsRow};
-ghost use Rattle.ja_lib.specs.Reading.{Finds};
+ghost use Rattle.ja_lib.specs.InnerReading.{Finds};
 ghost use Rattle.ja_base.specs.Limit.{max_categories};
 
 use crate::TableRow;

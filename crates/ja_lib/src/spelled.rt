@@ -2,7 +2,7 @@
 ghost use Rattle.toml.specs.View.{table_view};
 ghost use Rattle.toml.specs.Data.{Members};
 ghost use Rattle.std.specs.Prelude.{◌≤◌, ℕ, List, length};
-ghost use Rattle.ja_lib.specs.Reading.{Finds, FindsAll, AreTables};
+ghost use Rattle.ja_lib.specs.InnerReading.{Finds, FindsAll, AreTables};
 ghost use Rattle.ja_base.specs.Limit.{max_categories};
 
 use crate::part::PartFault;

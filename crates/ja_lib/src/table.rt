@@ -1,7 +1,7 @@
 ghost use Rattle.std.specs.Prelude.{◌≡◌, ◌&&◌, slice_get, option_copied, IfOk};
 ghost use Rattle.ja_lib.specs.Content.{all_marks};
 ghost use Rattle.ja_lib.specs.Rows.{is_for_method, is_for_desc, row_for};
-ghost use Rattle.ja_lib.specs.Index.{first_at};
+ghost use Rattle.ja_lib.specs.InnerIndex.{first_at};
 
 use crate::category::all_marks;
 use crate::index::places_by_class;
@@ -25,7 +25,7 @@ impl Model for Table {
 
     ghost Value = { Content };
 
-    ghost use Rattle.ja_lib.specs.Index.{IsIndexOf};
+    ghost use Rattle.ja_lib.specs.InnerIndex.{IsIndexOf};
     ghost use Rattle.ja_lib.specs.Content.{IsCategorized};
 
     ghost view = { λ table. record { categories = table.categories; rows = table.rows; entries = table.entries } };

@@ -4,7 +4,7 @@ ghost use Rattle.std.specs.List.{list_any};
 ghost use Rattle.toml.specs.Data.{as_array};
 ghost use Rattle.toml.specs.View.{view, items_view, array_view};
 ghost use Rattle.ja_lib.specs.File.{any_text, filled_text, texts_in, filled_texts, truth_at, position, unseen, new_position, positions_in, positions_at, flow_word, flow_at, effect_word, effect_at, result_word, result_at, IsDesc, MayBeDesc};
-ghost use Rattle.ja_lib.specs.Reading.{Finds, Gives, seen_of};
+ghost use Rattle.ja_lib.specs.InnerReading.{Finds, Gives, seen_of};
 
 use crate::part::PartFault;
 use ja_base::{Name, Names, Numbers, Seq};

@@ -12,7 +12,7 @@ use Rattle.ja_listing.specs.Word.{words}
 use Rattle.ja_listing.proofs.Glyphs.{part_at}
 use Rattle.ja_listing.specs.Order.{stands}
 use Rattle.ja_listing.specs.Notation.{has_words, items_in, meaning, Means, Breaks}
-use Rattle.ja_listing.specs.Reading.{next, step, go_on, read}
+use Rattle.ja_listing.specs.InnerReading.{next, step, go_on, read}
 
 pub behind_one : (line : Line) (earlier lines : List Line) → reverse (line ∷ earlier) ++ lines ≡ reverse earlier ++ line ∷ lines
 behind_one line earlier lines = ap (λ ls. ls ++ lines) (reverse_onto earlier line []) ∙ append_assoc (reverse earlier) (line ∷ []) lines

@@ -6,7 +6,7 @@ use Rattle.ja_listing.specs.declared.fault.MakeFault.TheVariants.{BadListing, Me
 use Rattle.ja_listing.specs.declared.item.Line.{Line}
 use Rattle.ja_listing.specs.Listed.{Listed, lines_of}
 use Rattle.ja_listing.specs.Notation.{items_of, meaning, Means, Breaks, Spells, IsFirstBroken, IsCause, Answers}
-use Rattle.ja_listing.specs.Reading.{read, Lists}
+use Rattle.ja_listing.specs.InnerReading.{read, Lists}
 use Rattle.ja_listing.proofs.Listings.{same_classes}
 use Rattle.ja_listing.proofs.AllItems.{means_read, breaks_read, read_means, read_breaks}
 

@@ -8,7 +8,7 @@ use Rattle.ja_listing.specs.declared.item.Line.{Line}
 use Rattle.ja_listing.specs.declared.item.Line.TheVariants as line_kinds
 use Rattle.ja_listing.specs.declared.scope.Scope.{Scope}
 use Rattle.ja_listing.specs.Listed.{Listed, item_line, lines_of, AreNumbered}
-use Rattle.ja_listing.specs.Scope.{IsScope, IsKept}
+use Rattle.ja_listing.specs.InnerScope.{IsScope, IsKept}
 use Rattle.ja_listing.proofs.Listings.{lines_begin, numbers_begin}
 
 -- a class more

@@ -6,7 +6,7 @@ use Rattle.ja_listing.specs.declared.item.Line.{Line}
 use Rattle.ja_listing.specs.declared.item.Line.TheVariants as line_kinds
 use Rattle.ja_listing.specs.declared.scope.Scope.{Scope}
 use Rattle.ja_listing.specs.Order.{begins_method, item_stands, stands}
-use Rattle.ja_listing.specs.Scope.{has, allows_item, allows, IsScope}
+use Rattle.ja_listing.specs.InnerScope.{has, allows_item, allows, IsScope}
 
 item_allowed : (earlier : List Line) (scope : Scope) (item : Item) → IsScope earlier scope → allows_item scope item ≡ item_stands earlier item
 item_allowed earlier scope (Field flags name desc) s = s.class

@@ -12,7 +12,7 @@ use Rattle.ja_listing.specs.declared.word.Word.{Word}
 use Rattle.ja_listing.specs.Text.{quote, is_blank, parted}
 use Rattle.ja_listing.specs.Word.{◌>>=◌, replaced, begins_whole, has_whole, static_call, bare_words, before, letters, if_last, closed, text_word, part_words, all_words}
 use Rattle.ja_listing.proofs.Glyphs.{part_at}
-use Rattle.ja_listing.specs.Reading.{Fails, with_front, short_at, first_letter, first_quoted}
+use Rattle.ja_listing.specs.InnerReading.{Fails, with_front, short_at, first_letter, first_quoted}
 
 -- ---- abbreviations
 

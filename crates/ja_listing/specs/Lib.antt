@@ -6,5 +6,5 @@ pub mod Item
 pub mod Order
 pub mod Listed
 pub mod Notation
-pub mod Reading
-pub mod Scope
+pub mod InnerReading
+pub mod InnerScope

@@ -14,7 +14,7 @@ pub(crate) struct Draft {
 impl Model for Draft {
     ghost use Rattle.std.specs.Prelude.{List, ◌++◌};
     ghost use Rattle.ja_listing.specs.Listed.{Listed};
-    ghost use Rattle.ja_listing.specs.Scope.{listed, IsBegun};
+    ghost use Rattle.ja_listing.specs.InnerScope.{listed, IsBegun};
 
     ghost Value = { List Listed };
 

@@ -1,6 +1,6 @@
 ghost use Rattle.std.specs.Prelude.{◌≡◌, drop};
 ghost use Rattle.ja_listing.specs.Item.{class_line, field_item, frame_of, method_item, caught, try_item, instruction, is_label, labelled, item_by, line_by, line_of};
-ghost use Rattle.ja_listing.specs.Reading.{Gives};
+ghost use Rattle.ja_listing.specs.InnerReading.{Gives};
 
 use crate::fault::ItemFault;
 use crate::operand::{bare_at, name_at, number_at, operand_of};

@@ -1,6 +1,6 @@
 ghost use Rattle.std.specs.Prelude.{◌≡◌, ◌<◌, length, IfSome, IfOk};
 ghost use Rattle.ja_listing.specs.Operand.{bare_at, quoted_at, number_at, first_place, field_name, method_name, constant_operand, increment_operand, label_operand, text_operand, class_operand, array_operand, field_operand, method_operand, operand_of};
-ghost use Rattle.ja_listing.specs.Reading.{Gives, Lends};
+ghost use Rattle.ja_listing.specs.InnerReading.{Gives, Lends};
 
 use crate::fault::ItemFault;
 use crate::number::number_of;

@@ -4,8 +4,8 @@ ghost use Rattle.ja_listing.specs.Word.{words};
 ghost use Rattle.ja_listing.specs.Order.{stands};
 ghost use Rattle.ja_listing.specs.Listed.{Listed};
 ghost use Rattle.ja_listing.specs.Notation.{items_in, Spells, IsFirstBroken, IsCause, Answers};
-ghost use Rattle.ja_listing.specs.Reading.{step, read, Lists};
-ghost use Rattle.ja_listing.specs.Scope.{IsKept};
+ghost use Rattle.ja_listing.specs.InnerReading.{step, read, Lists};
+ghost use Rattle.ja_listing.specs.InnerScope.{IsKept};
 
 use crate::draft::Draft;
 use crate::fault::ItemFault;

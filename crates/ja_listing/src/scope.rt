@@ -1,6 +1,6 @@
 ghost use Rattle.std.specs.Prelude.{◌≡◌, ℕ, List, [], ◌∷◌, true, false, OnOk};
 ghost use Rattle.ja_listing.specs.declared.item.Line.{Line};
-ghost use Rattle.ja_listing.specs.Scope.{has, has_given, allows_item, allows, IsScope};
+ghost use Rattle.ja_listing.specs.InnerScope.{has, has_given, allows_item, allows, IsScope};
 
 use crate::{Item, Line};
 use indexmap::IndexSet;

@@ -1,7 +1,7 @@
 ghost use Rattle.std.specs.Prelude.{◌≡◌, ◌<◌, ◌≤◌, ◌++◌, Some, length, drop, bytes_eq, option_copied, OnOk, IfOk};
 ghost use Rattle.ja_listing.specs.Text.{is_blank, parted};
 ghost use Rattle.ja_listing.specs.Word.{abbreviation, replaced, begins_whole, has_whole, bare_words, static_call, letters, closed, part_words, all_words, words};
-ghost use Rattle.ja_listing.specs.Reading.{short_at, first_letter, first_quoted, Gives, Adds};
+ghost use Rattle.ja_listing.specs.InnerReading.{short_at, first_letter, first_quoted, Gives, Adds};
 
 use crate::fault::ItemFault;
 use crate::glyph::{Glyph, front, rest_behind, word_len};

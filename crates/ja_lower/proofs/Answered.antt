@@ -17,10 +17,10 @@ use Rattle.ja_methods.specs.Sites.{AreSitesOf}
 use Rattle.std.specs.declared.result.Result.{Result}
 use Rattle.ja_lower.specs.declared.place.Place.{Place}
 use Rattle.ja_lower.specs.declared.answer.Answer.{Answer}
-use Rattle.ja_lower.specs.Places.{PlacesUpTo, no_place, next_place, next_class, PlacesFrom, all_passed, place_left, class_passed}
-use Rattle.ja_lower.specs.Answers.{CanAnswer, IsAnswer, IsAnswerAt, AnswersFrom, AreUnderWay, all_passed as all_answered, answer_left, class_passed as class_answered}
+use Rattle.ja_lower.specs.InnerPlaces.{PlacesUpTo, no_place, next_place, next_class, PlacesFrom, all_passed, place_left, class_passed}
+use Rattle.ja_lower.specs.InnerAnswers.{CanAnswer, IsAnswer, IsAnswerAt, AnswersFrom, AreUnderWay, all_passed as all_answered, answer_left, class_passed as class_answered}
 use Rattle.ja_lower.specs.Program.{heads_of}
-use Rattle.ja_lower.specs.Steps.{AreUpTo}
+use Rattle.ja_lower.specs.InnerSteps.{AreUpTo}
 use Rattle.ja_lower.proofs.UpTo.{past}
 
 -- what stands before a place, and what stands from it on

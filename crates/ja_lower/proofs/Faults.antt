@@ -17,7 +17,7 @@ use Rattle.ja_lower.specs.declared.fault.LowerFault.{LowerFault}
 use Rattle.ja_lower.specs.declared.fault.LowerFault.TheVariants.{Refused, Memory as NoMemory}
 use Rattle.ja_lower.specs.Program.{IsLowerFault, MethodsUpTo, heads_of, of_hierarchy, of_method}
 use Rattle.ja_lower.specs.Refusals.{IsOrMemory, NamesOneOf, hier_refusal, method_refusal}
-use Rattle.ja_lower.specs.Steps.{MethodOrRefusal}
+use Rattle.ja_lower.specs.InnerSteps.{MethodOrRefusal}
 use Rattle.ja_lower.proofs.UpTo.{no-memory, none-refused}
 
 -- a fault of a hierarchy names a class of the list

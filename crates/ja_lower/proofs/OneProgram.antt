@@ -29,7 +29,7 @@ use Rattle.ja_heads.specs.Entries.{AreEntries}
 use Rattle.ja_heads.specs.Fields.{AreFields}
 use Rattle.ja_lower.specs.Program.{MethodsUpTo, none_yet, next_method, next_class, SitesUpTo, no_site, next_sites, site_of, heads_of, IsMethodRefused, IsProgramOf, IsRefusedWhole, of_hierarchy, of_method, StandsBefore}
 use Rattle.ja_lower.specs.Refusals.{hier_refusal, method_refusal}
-use Rattle.ja_lower.specs.Steps.{MethodOrRefusal}
+use Rattle.ja_lower.specs.InnerSteps.{MethodOrRefusal}
 use Rattle.ja_lower.proofs.OneList.{one-list}
 use Rattle.ja_lower.proofs.UpTo.{none-refused}
 

@@ -22,7 +22,7 @@ use Rattle.ja_methods.specs.Sites.{AreSitesOf}
 use Rattle.ja_lower.proofs.Inside.{refused-inside}
 use Rattle.ja_lower.specs.Program.{MethodsUpTo, none_yet, next_method, next_class, SitesUpTo, no_site, next_sites, site_of, heads_of, IsMethodRefused, StandsBefore}
 use Rattle.ja_lower.specs.Refusals.{method_refusal}
-use Rattle.ja_lower.specs.Steps.{AreUpTo, MethodOrRefusal}
+use Rattle.ja_lower.specs.InnerSteps.{AreUpTo, MethodOrRefusal}
 
 -- ---- lists
 

@@ -1,7 +1,7 @@
 pub mod Folder
 pub mod Refusals
 pub mod Program
-pub mod Steps
+pub mod InnerSteps
 pub mod Accept
-pub mod Places
-pub mod Answers
+pub mod InnerPlaces
+pub mod InnerAnswers

@@ -1,7 +1,7 @@
 ghost use Rattle.std.specs.Prelude.{◌≡◌, ◌≤◌, ◌^◌, zero, IfOk, length};
-ghost use Rattle.ja_lower.specs.Places.{PlacesFrom};
+ghost use Rattle.ja_lower.specs.InnerPlaces.{PlacesFrom};
 ghost use Rattle.ja_lower.specs.Program.{heads_of};
-ghost use Rattle.ja_lower.specs.Answers.{AnswersFrom, CanAnswer, IsAnswerAt};
+ghost use Rattle.ja_lower.specs.InnerAnswers.{AnswersFrom, CanAnswer, IsAnswerAt};
 ghost use Rattle.ja_base.specs.Limit.{max_numbered};
 
 use crate::place::Place;

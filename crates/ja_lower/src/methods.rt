@@ -2,9 +2,9 @@ ghost use Rattle.std.specs.Prelude.{◌≡◌, ◌++◌, ◌∷◌, ◌<◌, ◌
 ghost use Rattle.ja_hier.specs.declared.starts.Member.TheVariants.{Method as OfMethods};
 ghost use Rattle.ja_hier.specs.Faults.{IsHierarchy};
 ghost use Rattle.ja_hier.specs.Members.{count_of};
-ghost use Rattle.ja_lower.specs.Answers.{IsAnswer};
+ghost use Rattle.ja_lower.specs.InnerAnswers.{IsAnswer};
 ghost use Rattle.ja_lower.specs.Program.{AreMethods, AreSites, IsLowerFault, heads_of, site_of};
-ghost use Rattle.ja_lower.specs.Steps.{AreUpTo};
+ghost use Rattle.ja_lower.specs.InnerSteps.{AreUpTo};
 ghost use Rattle.ja_base.specs.Limit.{max_numbered};
 
 use crate::LowerFault;

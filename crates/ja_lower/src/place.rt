@@ -3,7 +3,7 @@ ghost use Rattle.ja_class.specs.Meaning.{ClassSpelled};
 ghost use Rattle.ja_hier.specs.declared.starts.Member.TheVariants.{Method as OfMethods};
 ghost use Rattle.ja_hier.specs.Members.{count_of};
 ghost use Rattle.ja_lower.specs.Program.{heads_of};
-ghost use Rattle.ja_lower.specs.Places.{PlacesFrom, PlacesUpTo};
+ghost use Rattle.ja_lower.specs.InnerPlaces.{PlacesFrom, PlacesUpTo};
 ghost use Rattle.ja_base.specs.Limit.{max_numbered};
 
 use ja_base::{Memory, Seq};

@@ -7,7 +7,7 @@ use Rattle.ja_attributes.specs.Attribute.{code_bytes, attributes_bytes}
 use Rattle.ja_listing.specs.declared.item.Frame.{Frame}
 use Rattle.ja_assembly.specs.Members.{Labelled, Range, place_of_label}
 use Rattle.ja_assembly.specs.Assembled.{Pool, u2, u4, row_of, instruction_bytes, code_of, text_index, attributes_of}
-use Rattle.ja_maker.specs.Writing.{rows_in, content_bytes}
+use Rattle.ja_maker.specs.InnerWriting.{rows_in, content_bytes}
 
 module _ (o a b c d e f g : List ℕ) where
   pub seven : (p q r s t u v : List ℕ) → p ≡ o ++ a → q ≡ p ++ b → r ≡ q ++ c → s ≡ r ++ d → t ≡ s ++ e → u ≡ t ++ f → v ≡ u ++ g

@@ -10,7 +10,7 @@ use Rattle.ja_listing.specs.declared.item.Operand.TheVariants.{Nothing, MethodNa
 use Rattle.ja_listing.specs.declared.item.Item.{Item}
 use Rattle.ja_assembly.specs.Members.{Labelled, place_of_label, instructions_in, ranges_in}
 use Rattle.ja_assembly.specs.Assembled.{Pool, u2, text_index, operand_bytes, instruction_bytes, code_of, method_info}
-use Rattle.ja_maker.specs.Constructor.{initializer_code, initializer_frame, constructor_body}
+use Rattle.ja_maker.specs.InnerConstructor.{initializer_code, initializer_frame, constructor_body}
 
 -- its code
 pub constructor_is : (pool : Pool) (labels : List ℕ → Option ℕ) (superclass : List ℕ) (m : MemberName) (is : List Labelled) (o p q r s : List ℕ) → o ≡ []

@@ -14,9 +14,9 @@ use Rattle.ja_writable.specs.declared.wants.Wants.{Wants}
 use Rattle.ja_assembly.specs.Members.{fields, methods, items_of_class}
 use Rattle.ja_assembly.specs.Wanted.{entries}
 use Rattle.ja_assembly.specs.Unwritable.{CannotBeWritten, before, expansion}
-use Rattle.ja_writable.specs.Judging.{IsAllowed}
+use Rattle.ja_writable.specs.InnerJudging.{IsAllowed}
 use Rattle.ja_assembly.specs.Assembled.{Pool, u2, u4, class_index, string_entry, key_entry, entries_of, field_info, method_info, pool_for, file_in}
-use Rattle.ja_maker.specs.Writing.{pool_in, IsFew, members_bytes}
+use Rattle.ja_maker.specs.InnerWriting.{pool_in, IsFew, members_bytes}
 
 -- no entry takes two indices
 keys_length : (pool : Pool) (ks : List Key) (place : ℕ) → length (entries_from place (map (key_entry pool) ks)) ≡ length ks

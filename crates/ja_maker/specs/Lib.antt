@@ -1,2 +1,2 @@
-pub mod Writing
-pub mod Constructor
+pub mod InnerWriting
+pub mod InnerConstructor

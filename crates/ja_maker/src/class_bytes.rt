@@ -6,7 +6,7 @@ ghost use Rattle.ja_attributes.specs.Attribute.{attributes_bytes, code_bytes};
 ghost use Rattle.ja_class.specs.ClassFile.{member_bytes};
 ghost use Rattle.ja_assembly.specs.Members.{expanded, fields, instructions_in, ranges_in};
 ghost use Rattle.ja_assembly.specs.Assembled.{u2, text_index, code_of, attributes_of, field_info, method_info};
-ghost use Rattle.ja_maker.specs.Writing.{pool_in, IsFew};
+ghost use Rattle.ja_maker.specs.InnerWriting.{pool_in, IsFew};
 
 use crate::code_bytes::put_instructions;
 use crate::method_bytes::{content_of, put_code};

@@ -4,9 +4,9 @@ ghost use Rattle.std.specs.Prelude.{◌≡◌, ◌+◌, ◌++◌, ◌∷◌, [],
 ghost use Rattle.ja_code.specs.Opcode.{form_at};
 ghost use Rattle.ja_assembly.specs.Members.{unsigned, instructions_in};
 ghost use Rattle.ja_assembly.specs.Wanted.{method_tag};
-ghost use Rattle.ja_assembly.specs.Labels.{places};
+ghost use Rattle.ja_assembly.specs.InnerLabels.{places};
 ghost use Rattle.ja_assembly.specs.Assembled.{u1, u2, place_or_0, constant_bytes, branch_bytes, padding_bytes, operand_bytes, instruction_bytes, member_index};
-ghost use Rattle.ja_maker.specs.Writing.{pool_in, IsFew};
+ghost use Rattle.ja_maker.specs.InnerWriting.{pool_in, IsFew};
 
 use crate::pool_bytes::{class_index, member_index, string_index};
 use crate::put::{put_u1, put_u2, put_u4};

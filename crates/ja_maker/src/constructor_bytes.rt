@@ -5,10 +5,10 @@ ghost use Rattle.std.specs.List.{flat_map};
 ghost use Rattle.ja_attributes.specs.Attribute.{code_bytes};
 ghost use Rattle.ja_class.specs.ClassFile.{member_bytes};
 ghost use Rattle.ja_assembly.specs.Members.{expanded, methods, instructions_in, ranges_in};
-ghost use Rattle.ja_assembly.specs.Labels.{places};
+ghost use Rattle.ja_assembly.specs.InnerLabels.{places};
 ghost use Rattle.ja_assembly.specs.Assembled.{instruction_bytes, code_of, method_info};
-ghost use Rattle.ja_maker.specs.Writing.{pool_in, IsFew};
-ghost use Rattle.ja_maker.specs.Constructor.{initializer_code, initializer_frame, constructor_body};
+ghost use Rattle.ja_maker.specs.InnerWriting.{pool_in, IsFew};
+ghost use Rattle.ja_maker.specs.InnerConstructor.{initializer_code, initializer_frame, constructor_body};
 
 use crate::class_bytes::{put_front, put_method};
 use crate::code_bytes::{Labels, put_instruction, put_instructions};

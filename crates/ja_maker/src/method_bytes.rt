@@ -2,10 +2,10 @@
 
 ghost use Rattle.std.specs.Prelude.{◌≡◌, ◌++◌, ◌∷◌, [], ℕ, List, codes, length, OnOk, IfOk};
 ghost use Rattle.ja_attributes.specs.Attribute.{attributes_bytes, handler_bytes};
-ghost use Rattle.ja_assembly.specs.Labels.{places};
+ghost use Rattle.ja_assembly.specs.InnerLabels.{places};
 ghost use Rattle.ja_assembly.specs.Assembled.{u2, catch_index, row_of, text_index};
 ghost use Rattle.ja_assembly.specs.Members.{ranges_in};
-ghost use Rattle.ja_maker.specs.Writing.{pool_in, IsFew, rows_in, content_bytes};
+ghost use Rattle.ja_maker.specs.InnerWriting.{pool_in, IsFew, rows_in, content_bytes};
 
 use crate::code_bytes::{Labels, place_or_0};
 use crate::pool_bytes::{class_index, text_index};

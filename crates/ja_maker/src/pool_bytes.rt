@@ -5,7 +5,7 @@ ghost use Rattle.std.specs.List.{flat_map};
 ghost use Rattle.ja_pool.specs.Entry.{utf8, single, pair, spelling};
 ghost use Rattle.ja_assembly.specs.declared.key.Key.TheVariants.{Text, Class, NameAndType, Member};
 ghost use Rattle.ja_assembly.specs.Assembled.{u1, u2, string_index, key_index, text_index, class_index, member_index, string_entry, key_entry, entries_of, Pool};
-ghost use Rattle.ja_maker.specs.Writing.{pool_in, IsFew};
+ghost use Rattle.ja_maker.specs.InnerWriting.{pool_in, IsFew};
 
 use crate::put::{put_bytes, put_u1, put_u2};
 use ja_assembly::Key;

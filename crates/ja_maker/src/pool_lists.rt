@@ -4,7 +4,7 @@ ghost use Rattle.std.specs.Prelude.{◌≡◌, ◌++◌, map, OnOk};
 ghost use Rattle.std.specs.List.{flat_map};
 ghost use Rattle.ja_pool.specs.Entry.{spelling};
 ghost use Rattle.ja_assembly.specs.Assembled.{string_entry, key_entry};
-ghost use Rattle.ja_maker.specs.Writing.{pool_in, IsFew};
+ghost use Rattle.ja_maker.specs.InnerWriting.{pool_in, IsFew};
 
 use crate::pool_bytes::{put_key, put_string};
 use ja_base::{Bytes, Memory};

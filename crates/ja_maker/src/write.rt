@@ -8,10 +8,10 @@ ghost use Rattle.ja_class.specs.ClassFile.{spelling};
 ghost use Rattle.ja_listing.specs.Listed.{Listed};
 ghost use Rattle.ja_assembly.specs.Members.{expanded, fields, methods};
 ghost use Rattle.ja_assembly.specs.Unwritable.{IsWritable, IsFirstUnwritable, IsCause, Passes, Refuses};
-ghost use Rattle.ja_writable.specs.Judging.{IsAllowed};
+ghost use Rattle.ja_writable.specs.InnerJudging.{IsAllowed};
 ghost use Rattle.ja_assembly.specs.Assembled.{u2, u4, class_index, entries_of, field_info, method_info, file_in, file_of};
 ghost use Rattle.ja_assembly.specs.Written.{IsWritten};
-ghost use Rattle.ja_maker.specs.Writing.{pool_in, IsFew, members_bytes};
+ghost use Rattle.ja_maker.specs.InnerWriting.{pool_in, IsFew, members_bytes};
 
 use crate::class_bytes::{count_fields, put_fields};
 use crate::constructor_bytes::{count_methods, put_methods};

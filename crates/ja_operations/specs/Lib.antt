@@ -2,7 +2,7 @@ pub mod Names
 pub mod Profile
 pub mod Tokens
 pub mod Shuffles
-pub mod Moves
+pub mod InnerMoves
 pub mod Fields
 pub mod Rows
 pub mod Targets

@@ -2,7 +2,7 @@ ghost use Rattle.std.specs.Prelude.{◌≡◌, map, length, IfOk, IsTrue, option
 ghost use Rattle.std.specs.List.{list_all};
 ghost use Rattle.ja_kinds.specs.Frame.{top};
 ghost use Rattle.ja_operations.specs.Shuffles.{have_words, first_move, move_on, move_after, no_move, shuffle_of};
-ghost use Rattle.ja_operations.specs.Moves.{move_seen, is_short};
+ghost use Rattle.ja_operations.specs.InnerMoves.{move_seen, is_short};
 
 use ja_base::{Kind, Memory, Numbers};
 use ja_code::Rearrangement;

@@ -9,7 +9,7 @@ use Rattle.ja_class.specs.declared.first.FirstOp.TheVariants.{Load as FLoad, Sto
 use Rattle.ja_class.specs.Runnable.{pops}
 use Rattle.ja_plain.specs.Operation.{Operation, Load, Store, Call, Effect, Quiet, LibraryCall, ResultType, source_call, sink_call, operation, takes, gives}
 use Rattle.ja_plain.specs.Equations.{Slot, Local, OnStack, Dirt, Exc, Assignment, AtMost, Leaves, dirt_after, AfterNormal, GoesOn, IsSource, kept, gone, dirt, loaded, stored, new_text, returned, changed}
-use Rattle.ja_plain.specs.Pass.{UsesWithin, top_of, rest_of, locals_after, stack_after}
+use Rattle.ja_plain.specs.InnerPass.{UsesWithin, top_of, rest_of, locals_after, stack_after}
 use Rattle.ja_plain.proofs.Passing.{length-rest}
 
 -- the slots that the lists say are true

@@ -7,7 +7,7 @@ use Rattle.ja_class.specs.declared.first.FirstOp.{FirstOp}
 use Rattle.ja_class.specs.declared.first.FirstOp.TheVariants.{Load, Store, Text, Pop, Source, Sink, Return}
 use Rattle.ja_class.specs.declared.first.FirstInstr.{FirstInstr}
 use Rattle.ja_class.specs.Runnable.{height_after, UsesLocal, RunsFrom}
-use Rattle.ja_plain.specs.Pass.{UsesWithin, FindsAll, top_of, rest_of, locals_after, stack_after, with_flag, flags_from}
+use Rattle.ja_plain.specs.InnerPass.{UsesWithin, FindsAll, top_of, rest_of, locals_after, stack_after, with_flag, flags_from}
 
 pub uses-within : (locals : ℕ) (set : List ℕ) (op : FirstOp) → UsesLocal locals set op → UsesWithin locals op
 uses-within locals set (Load n) u = u.0

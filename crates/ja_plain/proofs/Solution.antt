@@ -14,7 +14,7 @@ use Rattle.ja_plain.specs.Token.{Token}
 use Rattle.ja_plain.specs.Operation.{Call, Effect, LibraryCall, sink_call, operation, listed, height_from, IsAt}
 use Rattle.ja_plain.specs.Equations.{Slot, Local, OnStack, Dirt, Exc, Entry, Assignment, Cell, AtMost, IsTaker, AfterNormal, GoesOn, Fact, Context, At, Stored, Rule, called, called_with_stored, begins, goes_on, library_stores, on_entry}
 use Rattle.ja_plain.specs.Verdict.{IsWarned, with_site, sites_from, AreVerdictsAt, AreVerdicts}
-use Rattle.ja_plain.specs.Pass.{UsesWithin, top_of, locals_after, stack_after, with_flag, flags_from}
+use Rattle.ja_plain.specs.InnerPass.{UsesWithin, top_of, locals_after, stack_after, with_flag, flags_from}
 use Rattle.ja_plain.proofs.Passing.{Passing, length-locals, length-stack, uses-within}
 use Rattle.ja_plain.proofs.Rounds.{least-solves, comes-by}
 use Rattle.ja_plain.proofs.Greatest.{truths, leaves, bounded, quiet}

@@ -3,7 +3,7 @@ pub mod Token
 pub mod Operation
 pub mod Equations
 pub mod Verdict
-pub mod Pass
+pub mod InnerPass
 pub mod State
 pub mod Reach
 pub mod Library

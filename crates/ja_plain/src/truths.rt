@@ -1,6 +1,6 @@
 ghost use Rattle.std.specs.Prelude.{◌≡◌, ℕ, ◌≤◌, ◌<◌, ◌-◌, length, false, [], IfOk, OnOk, take, replicate};
 ghost use Rattle.ja_class.specs.Runnable.{pops};
-ghost use Rattle.ja_plain.specs.Pass.{UsesWithin, locals_after, stack_after, top_of};
+ghost use Rattle.ja_plain.specs.InnerPass.{UsesWithin, locals_after, stack_after, top_of};
 
 use ja_base::Memory;
 use ja_class::FirstOp;

@@ -8,8 +8,8 @@ use Rattle.std.proofs.lemmas.List.Concat.{flat_map-append}
 use Rattle.ja_bytes.specs.Reading.{Reading}
 use Rattle.ja_pool.specs.declared.slot.Slot.{Slot}
 use Rattle.ja_pool.specs.Entry.{Entry, utf8, number, wide, single, pair, handle, spelling, IsEntry}
-use Rattle.ja_pool.specs.Slot.{form_of, slot_of, nothing, pad_slots, slots_from, form_pad}
-use Rattle.ja_pool.specs.Shape.{ReadsEntry, ReadsEntries}
+use Rattle.ja_pool.specs.InnerSlot.{form_of, slot_of, nothing, pad_slots, slots_from, form_pad}
+use Rattle.ja_pool.specs.InnerShape.{ReadsEntry, ReadsEntries}
 
 -- the padding of an entry is that of its form
 pub pad_is : (offset : ℕ) (e : Entry) → form_pad (form_of offset e) ≡ pad_slots e []

@@ -14,7 +14,7 @@ use Rattle.ja_pool.specs.declared.fault.PoolFault.TheVariants as faults
 use Rattle.ja_pool.specs.Entry.{Entry, utf8, number, wide, single, pair, handle, is_number_tag, is_wide_tag, is_single_tag, is_pair_tag, tag_of, payload, spelling, IsEntry}
 use Rattle.ja_pool.specs.Table.{Table, pad, entries_from, tags_of, first_wrong}
 use Rattle.ja_pool.specs.Pool.{table_of, PassesEntries, PassesPool, is_tag, fields_behind, EndsInside, IsEntryFault, IsCountFault, IsFaultInEntries, IsFaultInIndices, IsFirstFault}
-use Rattle.ja_pool.specs.Shape.{OrMemory}
+use Rattle.ja_pool.specs.InnerShape.{OrMemory}
 use Rattle.ja_pool.proofs.PayloadParts.{one_of_each, number_fields, wide_fields, single_fields, pair_fields}
 
 -- ---- numbers

@@ -11,9 +11,9 @@ use Rattle.ja_pool.specs.declared.slot.Slot.{Slot}
 use Rattle.ja_pool.specs.Entry.{Entry, spelling, IsEntry}
 use Rattle.ja_pool.specs.Table.{Table, entries_from, entry_fields, tags_of, is_wrong, first_wrong}
 use Rattle.ja_pool.specs.Pool.{table_of, PassesEntries, IsEntryFault, IsFaultInEntries, IsFaultInIndices, IsFirstFault}
-use Rattle.ja_pool.specs.Slot.{seen, slot_tags, slot_fields, wrong_place, AreInside, AreTagged}
-use Rattle.ja_pool.specs.Kept.{table_in}
-use Rattle.ja_pool.specs.Shape.{ReadsEntries, StopsAtEntry, OrMemory, ReadsTable, StopsAtIndex, IsFaultBehind}
+use Rattle.ja_pool.specs.InnerSlot.{seen, slot_tags, slot_fields, wrong_place, AreInside, AreTagged}
+use Rattle.ja_pool.specs.InnerKept.{table_in}
+use Rattle.ja_pool.specs.InnerShape.{ReadsEntries, StopsAtEntry, OrMemory, ReadsTable, StopsAtIndex, IsFaultBehind}
 use Rattle.ja_pool.proofs.Tables.{tags_are, fields_are, seen_all, places_are, texts_are, tags_stand, wrong_none, wrong_some}
 
 -- the slots of entries hold their table

@@ -10,8 +10,8 @@ use Rattle.ja_pool.specs.declared.slot.Form.TheVariants as forms
 use Rattle.ja_pool.specs.declared.slot.Slot.{Slot}
 use Rattle.ja_pool.specs.Entry.{Entry, utf8, number, wide, single, pair, handle, spelling, IsEntry}
 use Rattle.ja_pool.specs.Table.{Placed, Table, pad, entries_from, entry_tag, entry_text, entry_first, entry_second, IndexField, is_wrong, entry_fields, text_at, tag_at, first_at, second_at, dims_in, brackets_of, IsAt}
-use Rattle.ja_pool.specs.Kept.{table_in}
-use Rattle.ja_pool.specs.Slot.{form_tag, seen_form, seen, form_of, nothing, pad_slots, slots_from, slot_tags, slot_fields, wrong_place, form_first, form_second, text_end, AreInside, IsTagged, AreTagged}
+use Rattle.ja_pool.specs.InnerKept.{table_in}
+use Rattle.ja_pool.specs.InnerSlot.{form_tag, seen_form, seen, form_of, nothing, pad_slots, slots_from, slot_tags, slot_fields, wrong_place, form_first, form_second, text_end, AreInside, IsTagged, AreTagged}
 use Rattle.ja_pool.specs.declared.constant.Constant.{Constant}
 use Rattle.ja_pool.specs.declared.constant.Constant.TheVariants as constants
 use Rattle.ja_pool.specs.Constant.{IsConstant, IsConstantAt}

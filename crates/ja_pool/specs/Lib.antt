@@ -1,7 +1,7 @@
 pub mod Entry
 pub mod Table
 pub mod Pool
-pub mod Slot
-pub mod Shape
+pub mod InnerSlot
+pub mod InnerShape
 pub mod Constant
-pub mod Kept
+pub mod InnerKept

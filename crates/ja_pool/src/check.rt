@@ -3,7 +3,7 @@
 ghost use Rattle.std.specs.Prelude.{◌≡◌, ◌+◌, ◌<◌, ◌^◌, [], ◌∷◌, not, Some, All, slice_index};
 ghost use Rattle.std.specs.List.{flat_map};
 ghost use Rattle.ja_pool.specs.Table.{IndexField, is_wanted, pair_fields};
-ghost use Rattle.ja_pool.specs.Slot.{slot_fields, wrong_place};
+ghost use Rattle.ja_pool.specs.InnerSlot.{slot_fields, wrong_place};
 
 use crate::look::byte_at;
 use crate::slot::{Form, Slot};

@@ -1,6 +1,6 @@
 ghost use Rattle.std.specs.Prelude.{◌≡◌, ◌≤◌, length, IfOk, IfErr};
 ghost use Rattle.ja_pool.specs.Pool.{IsEntryFault};
-ghost use Rattle.ja_pool.specs.Shape.{ReadsEntry, ReadsEntries, StopsAtEntry, OrMemory};
+ghost use Rattle.ja_pool.specs.InnerShape.{ReadsEntry, ReadsEntries, StopsAtEntry, OrMemory};
 
 use crate::PoolFault;
 use crate::payload::payload;

@@ -3,8 +3,8 @@
 ghost use Rattle.std.specs.Prelude.{◌≡◌, ◌≤◌, ◌^◌, ◌<◌, IsTrue, length, slice_index, slice_index_or, IfOk};
 ghost use Rattle.ja_pool.specs.Table.{entry_text, entry_first, brackets_of, dims_in, dims_of, class_name_at, member_class_at, member_name_at, member_desc_at, tag_at, is_constant_tag};
 ghost use Rattle.ja_pool.specs.Constant.{IsConstantAt, IsConstant};
-ghost use Rattle.ja_pool.specs.Kept.{table_in};
-ghost use Rattle.ja_pool.specs.Slot.{nothing, seen, form_first, form_second, form_tag, slot_tags, text_end, AreInside, IsTagged, AreTagged};
+ghost use Rattle.ja_pool.specs.InnerKept.{table_in};
+ghost use Rattle.ja_pool.specs.InnerSlot.{nothing, seen, form_first, form_second, form_tag, slot_tags, text_end, AreInside, IsTagged, AreTagged};
 
 use crate::constant::{Constant, Member};
 use crate::slot::{Form, NOTHING, Slot};

@@ -3,7 +3,7 @@
 ghost use Rattle.std.specs.Prelude.{◌≡◌, ◌+◌, ◌≤◌, length, IfOk, IfErr};
 ghost use Rattle.std.specs.Int.{w64, to_be_bytes};
 ghost use Rattle.ja_base.specs.Tag as pool_tag;
-ghost use Rattle.ja_pool.specs.Shape.{HasShape, ReadsPayload, IsPayloadFault};
+ghost use Rattle.ja_pool.specs.InnerShape.{HasShape, ReadsPayload, IsPayloadFault};
 
 use crate::PoolFault;
 use crate::shape::Shape;

@@ -21,7 +21,7 @@ pub struct Pool {
 
 impl Model for Pool {
     ghost use Rattle.ja_pool.specs.Table.{Table};
-    ghost use Rattle.ja_pool.specs.Kept.{table_in, IsKept};
+    ghost use Rattle.ja_pool.specs.InnerKept.{table_in, IsKept};
 
     ghost Value = { Table };
 
@@ -32,8 +32,8 @@ impl Model for Pool {
 
 impl Pool {
     ghost use Rattle.ja_pool.specs.Table.{tags_of, dims_of, tag_at, place_at, text_at, class_name_at, member_class_at, member_name_at, member_desc_at, is_constant_tag, is_member_tag};
-    ghost use Rattle.ja_pool.specs.Slot.{slot_tags, AreInside, AreTagged};
-    ghost use Rattle.ja_pool.specs.Kept.{table_in};
+    ghost use Rattle.ja_pool.specs.InnerSlot.{slot_tags, AreInside, AreTagged};
+    ghost use Rattle.ja_pool.specs.InnerKept.{table_in};
     ghost use Rattle.ja_pool.specs.Constant.{IsConstantAt};
 
     /// The pool of these slots, whose texts are among the bytes.

@@ -2,7 +2,7 @@ ghost use Rattle.std.specs.Prelude.{◌≡◌, ◌≤◌, IfOk, IfErr, MatchResu
 ghost use Rattle.ja_bytes.specs.Reading.{Reading};
 ghost use Rattle.ja_pool.specs.Table.{Table};
 ghost use Rattle.ja_pool.specs.Pool.{PassesPool, IsFirstFault};
-ghost use Rattle.ja_pool.specs.Shape.{ReadsTable, IsFaultBehind, OrMemory};
+ghost use Rattle.ja_pool.specs.InnerShape.{ReadsTable, IsFaultBehind, OrMemory};
 
 use crate::check::first_wrong;
 use crate::entry::entries;

@@ -1,6 +1,6 @@
 ghost use Rattle.std.specs.Prelude.{◌≡◌, false, IfSome, IfNone};
 ghost use Rattle.ja_pool.specs.Pool.{is_tag};
-ghost use Rattle.ja_pool.specs.Shape.{HasShape, is_wide_shape};
+ghost use Rattle.ja_pool.specs.InnerShape.{HasShape, is_wide_shape};
 
 use ja_base::tag::{
     CLASS, DOUBLE, FIELD, FLOAT, INTEGER, INTERFACE_METHOD, INVOKE_DYNAMIC, LONG, METHOD,

@@ -1,5 +1,5 @@
 ghost use Rattle.std.specs.Prelude.{◌≡◌, ◌∷◌, ◌++◌, OnOk};
-ghost use Rattle.ja_pool.specs.Slot.{form_tag, form_first, form_second, form_pad};
+ghost use Rattle.ja_pool.specs.InnerSlot.{form_tag, form_first, form_second, form_pad};
 
 use ja_base::tag::{METHOD_HANDLE, UTF8};
 use std::alloc::AllocError;

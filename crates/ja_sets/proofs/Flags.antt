@@ -9,7 +9,7 @@ use Rattle.std.proofs.lemmas.Slice.Eq.{bytes_eq-Decides}
 use Rattle.std.proofs.Math.Seq.{take-append_seam}
 use Rattle.std.proofs.lemmas.Bool.{cases_eq, cases_lt, eq-eqb, ne_eqb}
 use Rattle.ja_sets.specs.Sets.{union, Adds}
-use Rattle.ja_sets.specs.Words.{flags, bit_of, IsTidy, JoinsWords, GainsBits}
+use Rattle.ja_sets.specs.InnerWords.{flags, bit_of, IsTidy, JoinsWords, GainsBits}
 use Rattle.ja_sets.proofs.Values.{length-values_from, values_from-at, length-union, union-at, adds_or_not}
 
 pub length-flags : (len : ℕ) (words : List ℕ) → length (flags len words) ≡ len

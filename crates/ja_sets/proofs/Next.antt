@@ -7,7 +7,7 @@ use Rattle.std.proofs.lemmas.Nat.Bits.{bit_at-zero, bit_at_above, bit_at-trailin
 use Rattle.std.proofs.lemmas.List.{get_or_past}
 use Rattle.std.proofs.lemmas.Bool.{cases_eq, cases_lt}
 use Rattle.ja_sets.specs.Sets.{Has, Lacks, IsNext, HasNoneFrom}
-use Rattle.ja_sets.specs.Words.{flags, bit_of, IsTidy}
+use Rattle.ja_sets.specs.InnerWords.{flags, bit_of, IsTidy}
 use Rattle.ja_sets.proofs.Flags.{flags-at, len-is, place-of, word-read, word-there}
 
 shift-bit : (w k i : ℕ) → bit_at (w / 2 ^ k) i ≡ bit_at w (k + i)

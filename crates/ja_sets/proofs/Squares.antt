@@ -5,7 +5,7 @@ use Rattle.std.proofs.lemmas.List.{ext_get_or, get_or-set_same, get_or-set_other
 use Rattle.std.proofs.Math.ListN.{length-set, length-replicate}
 use Rattle.std.proofs.lemmas.Bool.{cases_eq, cases_lt}
 use Rattle.ja_sets.specs.Sets.{Has, Lacks, union, Adds, HasPair, LacksPair, AddsPair, with_pair, union_pairs, AreSquare}
-use Rattle.ja_sets.specs.Rows.{cut, rows, IsSquare}
+use Rattle.ja_sets.specs.InnerRows.{cut, rows, IsSquare}
 use Rattle.ja_sets.proofs.Values.{length-union, union-at}
 
 length-cut : (width count : ℕ) (bits : List Bool) → length (cut width count bits) ≡ count

@@ -1,7 +1,7 @@
 -- Truth values by a test, and unions.
 use Rattle.std.proofs.Common.{◌≡◌, ℕ, zero, suc, ◌+◌, ◌<◌, ◌⊎◌, Bool, true, false, ◌||◌, List, [], ◌∷◌, length, get_or, refl, ap, ◌∙◌, inl, inr, arith}
 use Rattle.ja_sets.specs.Sets.{Has, union, Adds}
-use Rattle.ja_sets.specs.Words.{values_from}
+use Rattle.ja_sets.specs.InnerWords.{values_from}
 
 pub length-values_from : (test : ℕ → Bool) (from count : ℕ) → length (values_from test from count) ≡ count
 length-values_from test from zero = refl

@@ -1,3 +1,3 @@
 pub mod Sets
-pub mod Words
-pub mod Rows
+pub mod InnerWords
+pub mod InnerRows

@@ -1,6 +1,6 @@
 ghost use Rattle.std.specs.Prelude.{◌≡◌, ◌≢◌, ℕ, ◌+◌, ◌-◌, ◌^◌, ◌<◌, ◌≤◌, ◌↔◌, false, true, length, replicate, slice_index, slice_index_or, slice_set, IsTrue, IfOk, IfSome, IfNone, bit_or};
 ghost use Rattle.ja_sets.specs.Sets.{Lacks, Adds, union, IsNext, HasNoneFrom};
-ghost use Rattle.ja_sets.specs.Words.{JoinsWords, GainsBits};
+ghost use Rattle.ja_sets.specs.InnerWords.{JoinsWords, GainsBits};
 
 use ja_base::Memory;
 use std::alloc::Global;
@@ -15,7 +15,7 @@ pub struct Bits {
 
 impl Model for Bits {
     ghost use Rattle.std.specs.Prelude.{List, Bool};
-    ghost use Rattle.ja_sets.specs.Words.{flags, IsTidy};
+    ghost use Rattle.ja_sets.specs.InnerWords.{flags, IsTidy};
 
     ghost Value = { List Bool };
 

@@ -17,7 +17,7 @@ pub struct PairSet {
 
 impl Model for PairSet {
     ghost use Rattle.std.specs.Prelude.{List, Bool, ◌≡◌, ◌*◌, ◌<◌, ◌^◌, length};
-    ghost use Rattle.ja_sets.specs.Rows.{rows, IsSquare};
+    ghost use Rattle.ja_sets.specs.InnerRows.{rows, IsSquare};
 
     ghost Value = { List (List Bool) };
 

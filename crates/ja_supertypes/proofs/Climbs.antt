@@ -5,7 +5,7 @@ use Rattle.std.proofs.lemmas.List.{length-set, length-replicate}
 use Rattle.ja_sets.specs.Sets.{Has}
 use Rattle.ja_sets.proofs.Members.{Has-set, no-member}
 use Rattle.ja_ir.specs.declared.head.ClassHead.{ClassHead}
-use Rattle.ja_supertypes.specs.Index.{HasJust, IsTop}
+use Rattle.ja_supertypes.specs.InnerIndex.{HasJust, IsTop}
 use Rattle.ja_supertypes.specs.Supertypes.{superclass_of, IsSuperclass, next}
 use Rattle.ja_supertypes.proofs.Falls.{superclass-target}
 use Rattle.ja_supertypes.proofs.Up.{IsUp, stands, higher, up-case, up-from, superclass-from, superclass-more, proper-inside}

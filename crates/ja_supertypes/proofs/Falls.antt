@@ -9,7 +9,7 @@ use Rattle.std.proofs.lemmas.List.Quantifiers.{position-Some}
 use Rattle.ja_sets.specs.Sets.{Has, Lacks}
 use Rattle.ja_ir.specs.declared.head.ClassHead.{ClassHead}
 use Rattle.ja_supertypes.specs.Faults.{IsCyclic, IsNowhere}
-use Rattle.ja_supertypes.specs.Rows.{count, ShowsAll}
+use Rattle.ja_supertypes.specs.InnerRows.{count, ShowsAll}
 use Rattle.ja_supertypes.specs.Supertypes.{names_of, place_of, place_of_some, superclass_name, interface_names, interfaces_of, superclass_of, IsDirect, IsSupertype, IsAtOrAbove, direct, through}
 use Rattle.ja_supertypes.proofs.Ways.{direct-inside}
 

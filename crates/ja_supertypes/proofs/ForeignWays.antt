@@ -6,8 +6,8 @@ use Rattle.std.proofs.lemmas.Bool.{and_parts, and_from, or_cases, or_left, or_ri
 use Rattle.std.proofs.lemmas.List.Folds.{Any-from_list_any, list_any-from_Any}
 use Rattle.std.proofs.lemmas.Slice.Eq.{bytes_eq-Decides}
 use Rattle.ja_ir.specs.declared.head.ClassHead.{ClassHead}
-use Rattle.ja_supertypes.specs.Foreign.{is_foreign, is_some_foreign, names_foreign, is_raised, AreRaised}
-use Rattle.ja_supertypes.specs.Index.{Lists, ShowsForeign}
+use Rattle.ja_supertypes.specs.InnerForeign.{is_foreign, is_some_foreign, names_foreign, is_raised, AreRaised}
+use Rattle.ja_supertypes.specs.InnerIndex.{Lists, ShowsForeign}
 use Rattle.ja_supertypes.specs.Supertypes.{names_of, place_of, class_named, superclass_name, interface_names, object_name, IsSupertype, Names, as_superclass, as_interface, HasLibrarySupertype}
 use Rattle.ja_supertypes.proofs.Falls.{supertype-target}
 

@@ -9,8 +9,8 @@ use Rattle.std.proofs.lemmas.List.Elements.{filter_map-append, Contains-push, Co
 use Rattle.ja_sets.specs.Sets.{Has, union}
 use Rattle.ja_sets.proofs.Members.{Has-set, Has-union_iff, no-member}
 use Rattle.ja_sets.proofs.Values.{length-union}
-use Rattle.ja_supertypes.specs.Foreign.{is_raised, AreRaised}
-use Rattle.ja_supertypes.specs.Rows.{IsSetOf, AreSets, IsGathered, AreGathered, IsMembers, AreMembers, count}
+use Rattle.ja_supertypes.specs.InnerForeign.{is_raised, AreRaised}
+use Rattle.ja_supertypes.specs.InnerRows.{IsSetOf, AreSets, IsGathered, AreGathered, IsMembers, AreMembers, count}
 
 -- one item more, filtered
 pub filter_map-more : {X : Type 0} (f : X → Option ℕ) (xs : List X) (i : ℕ) (x : X) (o : Option ℕ) → i < length xs → x ≡ get_or xs i x → o ≡ f x

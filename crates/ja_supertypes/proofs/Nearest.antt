@@ -4,9 +4,9 @@ use Rattle.std.specs.Prelude.{Option, Some, None, bytes_eq, slice_get}
 use Rattle.std.proofs.lemmas.Bool.{cases_Bool}
 use Rattle.std.proofs.lemmas.Slice.Eq.{bytes_eq-Decides}
 use Rattle.ja_ir.specs.declared.head.ClassHead.{ClassHead}
-use Rattle.ja_supertypes.specs.Index.{IsTop}
+use Rattle.ja_supertypes.specs.InnerIndex.{IsTop}
 use Rattle.ja_supertypes.specs.LibraryTypes.{IsNearest, named, inherited, Begins, with_superclass, with_object, with_none}
-use Rattle.ja_supertypes.specs.Types.{other_than_object}
+use Rattle.ja_supertypes.specs.InnerTypes.{other_than_object}
 use Rattle.ja_supertypes.specs.Supertypes.{names_of, place_of_some, class_named, superclass_name, superclass_of, object_name, IsSuperclass, next, further}
 
 -- a superclass that is no program class is one of the library

@@ -7,8 +7,8 @@ use Rattle.std.proofs.lemmas.Option.{get_or_from_slice_get}
 use Rattle.ja_sets.specs.Sets.{Has}
 use Rattle.ja_ir.specs.declared.head.ClassHead.{ClassHead}
 use Rattle.ja_supertypes.specs.Faults.{IsCyclic, IsNowhere}
-use Rattle.ja_supertypes.specs.Index.{superclass_places, supertype_places, interface_places, Lists, Shows}
-use Rattle.ja_supertypes.specs.Rows.{AreSets, ShowsAll, ShowsDirect, IsGathered, AreGathered, AreMembers}
+use Rattle.ja_supertypes.specs.InnerIndex.{superclass_places, supertype_places, interface_places, Lists, Shows}
+use Rattle.ja_supertypes.specs.InnerRows.{AreSets, ShowsAll, ShowsDirect, IsGathered, AreGathered, AreMembers}
 use Rattle.ja_supertypes.specs.Supertypes.{names_of, place_of, place_of_some, superclass_name, interface_names, interfaces_of, superclass_of, supertypes_of, IsDirect, IsSupertype, IsSuperinterface, declared}
 use Rattle.ja_supertypes.proofs.Falls.{falls, direct-target, interface-target, supertype-target}
 use Rattle.ja_supertypes.proofs.Ways.{direct-inside}

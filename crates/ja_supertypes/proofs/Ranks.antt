@@ -6,8 +6,8 @@ use Rattle.ja_sets.specs.Sets.{Has}
 use Rattle.ja_sets.proofs.Members.{Has-set, no-member}
 use Rattle.ja_ir.specs.declared.head.ClassHead.{ClassHead}
 use Rattle.ja_supertypes.specs.Faults.{IsCyclic, IsNowhere}
-use Rattle.ja_supertypes.specs.Index.{supertype_places}
-use Rattle.ja_supertypes.specs.Rows.{AreSets, IsSetOf, ShowsAll, stepped}
+use Rattle.ja_supertypes.specs.InnerIndex.{supertype_places}
+use Rattle.ja_supertypes.specs.InnerRows.{AreSets, IsSetOf, ShowsAll, stepped}
 use Rattle.ja_supertypes.specs.Supertypes.{superclass_of, IsDirect}
 use Rattle.ja_supertypes.proofs.Falls.{rank, falls, superclass-direct}
 use Rattle.ja_supertypes.proofs.Places.{supertypes-inside, shows-direct}

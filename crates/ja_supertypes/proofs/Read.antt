@@ -4,7 +4,7 @@ use Rattle.std.specs.Prelude.{Option, Some, None, IfSome, slice_get}
 use Rattle.std.proofs.lemmas.Option.{get_or_from_slice_get}
 use Rattle.ja_sets.specs.Sets.{Has}
 use Rattle.ja_ir.specs.declared.head.ClassHead.{ClassHead}
-use Rattle.ja_supertypes.specs.Index.{AreTops, IsTop, Lists, Shows}
+use Rattle.ja_supertypes.specs.InnerIndex.{AreTops, IsTop, Lists, Shows}
 use Rattle.ja_supertypes.specs.Supertypes.{superclass_of, AreSupertypes, IsSupertype}
 use Rattle.ja_supertypes.proofs.Falls.{superclass-target}
 use Rattle.ja_supertypes.proofs.Up.{proper-inside}

@@ -5,10 +5,10 @@ use Rattle.std.specs.List.{cons_option}
 use Rattle.std.proofs.lemmas.Bool.{cases_Bool, cases_eq}
 use Rattle.std.proofs.lemmas.List.{take_more, get_or-set_same, get_or-set_other}
 use Rattle.ja_ir.specs.declared.head.ClassHead.{ClassHead}
-use Rattle.ja_supertypes.specs.Index.{IsTop}
+use Rattle.ja_supertypes.specs.InnerIndex.{IsTop}
 use Rattle.ja_supertypes.specs.LibraryTypes.{with_new, first_places, Begins, Expands, nothing, of_library, of_program, at_top, upwards, AreLibraryTypes}
 use Rattle.ja_supertypes.specs.Supertypes.{names_of, place_of, class_named, superclass_name, interface_names, superclass_of, object_name, IsDirect}
-use Rattle.ja_supertypes.specs.Types.{standing_for, other_than_object, spliced, names_at, AreOwnTypes, AreNoted}
+use Rattle.ja_supertypes.specs.InnerTypes.{standing_for, other_than_object, spliced, names_at, AreOwnTypes, AreNoted}
 use Rattle.ja_supertypes.proofs.Falls.{interface-direct, superclass-direct}
 use Rattle.ja_supertypes.proofs.FirstPlaces.{and_new, with-append, absorb-all, at-front, again-one, alone}
 use Rattle.ja_supertypes.proofs.Nearest.{begins-from-top, begins-one, begins-up}

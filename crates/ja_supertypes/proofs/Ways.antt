@@ -8,7 +8,7 @@ use Rattle.ja_sets.specs.Sets.{Has, union}
 use Rattle.ja_sets.proofs.Members.{Has-union_iff}
 use Rattle.ja_sets.proofs.Values.{length-union}
 use Rattle.ja_ir.specs.declared.head.ClassHead.{ClassHead}
-use Rattle.ja_supertypes.specs.Rows.{stepped, ShowsAll, ShowsDirect}
+use Rattle.ja_supertypes.specs.InnerRows.{stepped, ShowsAll, ShowsDirect}
 use Rattle.ja_supertypes.specs.Supertypes.{names_of, place_of, place_of_some, superclass_name, interface_names, supertypes_of, IsDirect, IsSupertype, direct, through}
 
 -- a way from class c up to class d whose middle classes are below k

@@ -1,7 +1,7 @@
 pub mod Supertypes
 pub mod Faults
 pub mod LibraryTypes
-pub mod Rows
-pub mod Foreign
-pub mod Index
-pub mod Types
+pub mod InnerRows
+pub mod InnerForeign
+pub mod InnerIndex
+pub mod InnerTypes

@@ -28,7 +28,7 @@ impl Model for Classes {
 
     ghost Value = { List ClassHead };
 
-    ghost use Rattle.ja_supertypes.specs.Types.{IsTyped};
+    ghost use Rattle.ja_supertypes.specs.InnerTypes.{IsTyped};
 
     ghost view = { λ classes. classes.tables.heads };
 

@@ -1,5 +1,5 @@
 ghost use Rattle.std.specs.Prelude.{◌≡◌, ℕ, ◌<◌, ◌≤◌, ◌^◌, [], length, slice_index_or, IfOk, OnOk};
-ghost use Rattle.ja_supertypes.specs.Rows.{ShowsDirect, ShowsAll, stepped};
+ghost use Rattle.ja_supertypes.specs.InnerRows.{ShowsDirect, ShowsAll, stepped};
 ghost use Rattle.ja_base.specs.Limit.{max_numbered};
 
 use ja_base::Memory;

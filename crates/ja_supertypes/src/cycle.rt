@@ -1,6 +1,6 @@
 ghost use Rattle.std.specs.Prelude.{◌≤◌, ◌^◌, length, IfErr, OnOk};
 ghost use Rattle.ja_supertypes.specs.Faults.{IsFault, IsNowhere, IsPlatform, IsDuplicate, IsCyclic};
-ghost use Rattle.ja_supertypes.specs.Rows.{ShowsAll};
+ghost use Rattle.ja_supertypes.specs.InnerRows.{ShowsAll};
 ghost use Rattle.ja_base.specs.Limit.{max_numbered};
 
 use crate::ClassFault;

@@ -2,7 +2,7 @@ ghost use Rattle.std.specs.Prelude.{◌≡◌, ℕ, ◌<◌, ◌≤◌, ◌^◌,
 ghost use Rattle.ja_ir.specs.declared.head.ClassHead.{ClassHead};
 ghost use Rattle.ja_sets.specs.Sets.{Has};
 ghost use Rattle.ja_supertypes.specs.Supertypes.{place_of, place_of_some};
-ghost use Rattle.ja_supertypes.specs.Rows.{AreSets, IsSetOf};
+ghost use Rattle.ja_supertypes.specs.InnerRows.{AreSets, IsSetOf};
 ghost use Rattle.ja_base.specs.Limit.{max_numbered};
 
 use indexmap::IndexSet;

@@ -1,7 +1,7 @@
 ghost use Rattle.std.specs.Prelude.{◌≡◌, ◌<◌, length, map, false, All, IfOk};
 ghost use Rattle.ja_ir.specs.declared.head.ClassHead.{ClassHead};
-ghost use Rattle.ja_supertypes.specs.Foreign as spec;
-ghost use Rattle.ja_supertypes.specs.Foreign.{is_foreign, is_some_foreign, names_foreign, AreRaised};
+ghost use Rattle.ja_supertypes.specs.InnerForeign as spec;
+ghost use Rattle.ja_supertypes.specs.InnerForeign.{is_foreign, is_some_foreign, names_foreign, AreRaised};
 ghost use Rattle.std.specs.List.{list_any};
 
 use indexmap::IndexSet;

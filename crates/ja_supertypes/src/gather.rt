@@ -1,7 +1,7 @@
 ghost use Rattle.std.specs.Prelude.{◌≡◌, ℕ, ◌<◌, ◌≤◌, ◌^◌, ◌⊎◌, ◌↔◌, ◌∷◌, ◌++◌, if◌then◌else◌, [], length, map, slice_index_or, All, Contains, IfOk, IsTrue, OnOk};
 ghost use Rattle.ja_ir.specs.declared.head.ClassHead.{ClassHead};
 ghost use Rattle.ja_sets.specs.Sets.{Has};
-ghost use Rattle.ja_supertypes.specs.Rows.{IsGathered, AreGathered, AreMembers, IsMembers};
+ghost use Rattle.ja_supertypes.specs.InnerRows.{IsGathered, AreGathered, AreMembers, IsMembers};
 
 use indexmap::IndexSet;
 use ja_base::{Flags, Memory, Name, Numbers, Seq};

@@ -1,8 +1,8 @@
 ghost use Rattle.std.specs.Prelude.{◌≡◌, ℕ, List, [], ◌∷◌, ◌<◌, ◌≤◌, ◌+◌, ◌++◌, length, slice_index_or, IfOk, IfSome, OnOk};
-ghost use Rattle.ja_supertypes.specs.Index.{IsIndexed};
+ghost use Rattle.ja_supertypes.specs.InnerIndex.{IsIndexed};
 ghost use Rattle.ja_supertypes.specs.LibraryTypes.{first_places, AreLibraryTypes};
 ghost use Rattle.ja_supertypes.specs.Supertypes.{place_of, IsDirect};
-ghost use Rattle.ja_supertypes.specs.Types.{names_at, other_than_object, standing_for, AreNoted, AreNotedBelow, AreOwnTypes, AreTypes};
+ghost use Rattle.ja_supertypes.specs.InnerTypes.{names_at, other_than_object, standing_for, AreNoted, AreNotedBelow, AreOwnTypes, AreTypes};
 
 use crate::tables::Tables;
 use indexmap::IndexSet;

@@ -1,7 +1,7 @@
 ghost use Rattle.std.specs.Prelude.{◌≡◌, ℕ, ◌<◌, ◌≤◌, ◌^◌, [], length, slice_index_or, IfOk, IfErr, OnOk};
 ghost use Rattle.ja_supertypes.specs.Faults.{IsCyclic, IsDuplicate, IsFault, IsNowhere, IsPlatform};
-ghost use Rattle.ja_supertypes.specs.Index.{interface_places, superclass_places, supertype_places, AreTops, IsIndexed, Lists, Shows, ShowsForeign};
-ghost use Rattle.ja_supertypes.specs.Rows.{ShowsAll};
+ghost use Rattle.ja_supertypes.specs.InnerIndex.{interface_places, superclass_places, supertype_places, AreTops, IsIndexed, Lists, Shows, ShowsForeign};
+ghost use Rattle.ja_supertypes.specs.InnerRows.{ShowsAll};
 ghost use Rattle.ja_supertypes.specs.Supertypes.{names_of, IsDirect, IsSuperclass, IsSuperinterface, IsSupertype};
 ghost use Rattle.ja_base.specs.Limit.{max_numbered};
 

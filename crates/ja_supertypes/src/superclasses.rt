@@ -1,6 +1,6 @@
 ghost use Rattle.std.specs.Prelude.{◌≡◌, ◌<◌, ◌≤◌, ◌^◌, length, IfOk};
 ghost use Rattle.ja_supertypes.specs.Faults.{IsCyclic, IsNowhere};
-ghost use Rattle.ja_supertypes.specs.Index.{superclass_places, AreTops, HasJust, IsTop, Shows};
+ghost use Rattle.ja_supertypes.specs.InnerIndex.{superclass_places, AreTops, HasJust, IsTop, Shows};
 ghost use Rattle.ja_supertypes.specs.Supertypes.{IsSuperclass};
 ghost use Rattle.ja_base.specs.Limit.{max_numbered};
 

@@ -13,7 +13,7 @@ use Rattle.ja_listing.specs.declared.item.Frame.{Frame}
 use Rattle.ja_listing.specs.Number.{has_code}
 use Rattle.ja_assembly.specs.Members.{fits}
 use Rattle.ja_assembly.specs.Unwritable.{IsCrowded, HasNoRoom, IsNoText, IsNoMember, IsNoField, IsNoMethod, IsNoFrame, IsEmpty}
-use Rattle.ja_writable.specs.Judging.{Judges, Takes}
+use Rattle.ja_writable.specs.InnerJudging.{Judges, Takes}
 
 -- a check behind one that passed
 pub or_else_judges : (P Q : Type 0) (r : Result ⊤ Flaw) → (P → ⊥) → Judges r Q → Judges r (P ⊎ Q)

@@ -15,8 +15,8 @@ use Rattle.ja_writable.specs.declared.wants.Wants.{Wants}
 use Rattle.ja_assembly.specs.Members.{expanded, instructions_in}
 use Rattle.ja_assembly.specs.Wanted.{same_key, with_one, keys_in, keys_of, head_keys, item_keys, item_strings, strings_of, pool_strings, pool_keys}
 use Rattle.ja_assembly.specs.Unwritable.{before, labels_at, pc_at, instructions_from, is_some_of, IsNoItemAt, IsNoItem, IsNoHead, IsTooMuch, CannotBeWritten, head, item, too_much, IsFirstUnwritable, IsWritable}
-use Rattle.ja_assembly.specs.Labels.{places}
-use Rattle.ja_writable.specs.Judging.{IsPlace, IsWants, IsState, IsStep, IsAsked, IsNoItemHere, IsFull, IsClean, IsNoPlace, Asks}
+use Rattle.ja_assembly.specs.InnerLabels.{places}
+use Rattle.ja_writable.specs.InnerJudging.{IsPlace, IsWants, IsState, IsStep, IsAsked, IsNoItemHere, IsFull, IsClean, IsNoPlace, Asks}
 use Rattle.ja_assembly.proofs.Items.{before_step}
 use Rattle.ja_writable.proofs.Steps.{field_step, try_step, instruction_step, method_step, initializer_step}
 

@@ -12,8 +12,8 @@ use Rattle.ja_listing.specs.Listed.{Listed}
 use Rattle.ja_writable.specs.declared.place.Place.{Place}
 use Rattle.ja_assembly.specs.Members.{Labelled, Body, expanded, fields, methods, instructions, ranges, size_of_opcode, code_size, place_of_label, instructions_in}
 use Rattle.ja_assembly.specs.Unwritable.{before, method_before, body_has_code, body_ranges, body_instructions, labels_at, instructions_from}
-use Rattle.ja_assembly.specs.Labels.{places}
-use Rattle.ja_writable.specs.Judging.{IsPlace, IsBegun, IsMore}
+use Rattle.ja_assembly.specs.InnerLabels.{places}
+use Rattle.ja_writable.specs.InnerJudging.{IsPlace, IsBegun, IsMore}
 use Rattle.ja_assembly.proofs.Methods.{size_append}
 use Rattle.ja_assembly.proofs.Items.{from_step, last_step, first_step, fields_step, methods_step, code_kept, ranges_same, instructions_same, ranges_grown, instructions_grown}
 

@@ -13,7 +13,7 @@ use Rattle.ja_writable.specs.declared.place.Place.{Place}
 use Rattle.ja_writable.specs.declared.wants.Wants.{Wants}
 use Rattle.ja_assembly.specs.Wanted.{head_keys, pool_strings, pool_keys}
 use Rattle.ja_assembly.specs.Unwritable.{IsNoHead, IsNoItem, CannotBeWritten, head, item, too_much, IsWritable, IsFirstUnwritable, IsCause, Passes, Refuses}
-use Rattle.ja_writable.specs.Judging.{Judges, Takes, Asks, IsNoPlace, IsState, IsItem, IsStep, IsAsked, IsNoItemHere, IsFull, IsClean, IsAllowed, fault_of}
+use Rattle.ja_writable.specs.InnerJudging.{Judges, Takes, Asks, IsNoPlace, IsState, IsItem, IsStep, IsAsked, IsNoItemHere, IsFull, IsClean, IsAllowed, fault_of}
 use Rattle.ja_writable.proofs.Checks.{last_takes, failed_takes}
 use Rattle.ja_writable.proofs.Judged.{here_there, there_here, full_much, much_full, first_state, wants_step, has_its_code, place_step, next_clean, first_clean, all_clean, all_before, found}
 

@@ -4,7 +4,7 @@ ghost use Rattle.std.specs.Prelude.{◌≡◌, ◌∷◌, [], fold, bytes_eq, co
 ghost use Rattle.ja_assembly.specs.declared.key.Key.TheVariants.{Text};
 ghost use Rattle.ja_assembly.specs.Members.{expanded, initializer};
 ghost use Rattle.ja_assembly.specs.Wanted.{with_one, same_key, class_keys, member_keys, operand_keys, frame_keys, catch_keys, item_keys, item_strings, method_tag, head_keys, keys_in};
-ghost use Rattle.ja_writable.specs.Judging.{Asks};
+ghost use Rattle.ja_writable.specs.InnerJudging.{Asks};
 
 use indexmap::IndexSet;
 use ja_assembly::{Key, constructor_of, method_tag};

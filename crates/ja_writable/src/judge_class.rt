@@ -3,7 +3,7 @@
 ghost use Rattle.std.specs.Prelude.{◌≡◌, ℕ, ◌+◌, [], IfOk, OnOk, IfErr};
 ghost use Rattle.ja_listing.specs.Listed.{Listed};
 ghost use Rattle.ja_assembly.specs.Unwritable.{CannotBeWritten, IsWritable, IsFirstUnwritable, IsCause, Passes, Refuses};
-ghost use Rattle.ja_writable.specs.Judging.{Judges, Takes, IsFull, IsSmall, IsItem, IsState, IsNoPlace, IsAsked, IsAllowed, fault_of};
+ghost use Rattle.ja_writable.specs.InnerJudging.{Judges, Takes, IsFull, IsSmall, IsItem, IsState, IsNoPlace, IsAsked, IsAllowed, fault_of};
 
 use crate::ask::{ask_head, ask_item, ask_string};
 use crate::flaw::Flaw;

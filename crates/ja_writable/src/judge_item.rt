@@ -3,9 +3,9 @@
 ghost use Rattle.std.specs.Prelude.{◌≡◌, ◌≤◌, ◌⊎◌, ℕ, List, [], ◌∷◌, true, false, Option};
 ghost use Rattle.ja_listing.specs.Number.{has_code};
 ghost use Rattle.ja_assembly.specs.Unwritable.{IsNoRange, IsNoCatch, IsNoFrame, IsEmpty, IsNoField, IsNoMethod, IsNoTry, IsNoInstruction, IsNoHead, is_some_of};
-ghost use Rattle.ja_assembly.specs.Labels.{places};
+ghost use Rattle.ja_assembly.specs.InnerLabels.{places};
 ghost use Rattle.ja_assembly.specs.Members.{instructions_in};
-ghost use Rattle.ja_writable.specs.Judging.{Judges, IsNoItemHere};
+ghost use Rattle.ja_writable.specs.InnerJudging.{Judges, IsNoItemHere};
 
 use crate::flaw::Flaw;
 use crate::judge_operand::{judge_instruction, place_of};

@@ -2,9 +2,9 @@
 
 ghost use Rattle.std.specs.Prelude.{◌≡◌, ◌≤◌, ◌⊎◌, true, Decides};
 ghost use Rattle.ja_assembly.specs.Unwritable.{suits, is_beyond_count, IsNoMember, IsTooFar, IsNoTarget, IsNoValue, IsNoInstruction};
-ghost use Rattle.ja_assembly.specs.Labels.{places};
+ghost use Rattle.ja_assembly.specs.InnerLabels.{places};
 ghost use Rattle.ja_bytes.specs.DescriptorText.{IsMethodText};
-ghost use Rattle.ja_writable.specs.Judging.{Judges};
+ghost use Rattle.ja_writable.specs.InnerJudging.{Judges};
 
 use crate::flaw::Flaw;
 use crate::judge_text::{

@@ -4,7 +4,7 @@ ghost use Rattle.std.specs.Prelude.{◌≡◌, ◌⊎◌, true, false, slice_ind
 ghost use Rattle.ja_bytes.specs.DescriptorText.{IsFieldDesc, IsMethodText};
 ghost use Rattle.ja_assembly.specs.Members.{fits, fits_signed};
 ghost use Rattle.ja_assembly.specs.Unwritable.{IsNoText, IsNoMember, HasNoRoom, IsCrowded, IsNoDimensions, is_no_constant, dimensions_of};
-ghost use Rattle.ja_writable.specs.Judging.{Judges};
+ghost use Rattle.ja_writable.specs.InnerJudging.{Judges};
 
 use crate::flaw::Flaw;
 use ja_base::Name;

@@ -1,5 +1,5 @@
 ghost use Rattle.std.specs.Prelude.{◌≡◌, ℕ, List, IfOk, OnOk};
-ghost use Rattle.ja_writable.specs.Judging.{IsSmall, IsBegun, IsMore, IsStep, IsNoPlace};
+ghost use Rattle.ja_writable.specs.InnerJudging.{IsSmall, IsBegun, IsMore, IsStep, IsNoPlace};
 
 use indexmap::IndexMap;
 use ja_assembly::{labels_of, size_of};

@@ -2,7 +2,7 @@
 
 ghost use Rattle.std.specs.Prelude.{◌≡◌};
 ghost use Rattle.std.specs.Int.{w16, w32};
-ghost use Rattle.ja_class.specs.Reading.{Gives, byte_at, number_at, after_number, bytes_at, pair_at, sized_at};
+ghost use Rattle.ja_class.specs.InnerReading.{Gives, byte_at, number_at, after_number, bytes_at, pair_at, sized_at};
 
 use super::FirstFault;
 
@@ -30,7 +30,7 @@ pub(super) fn u32_at(bytes: &[u8]) -> Result<(u32, &[u8]), FirstFault>
 }
 
 /// The bytes after a number of two bytes, which must be this one.
-#[tactic(auto, unfolding(crate::specs::Reading::after_number))]
+#[tactic(auto, unfolding(crate::specs::InnerReading::after_number))]
 pub(super) fn after_u16(bytes: &[u8], expected: u16) -> Result<&[u8], FirstFault>
     ensures { Gives (λ x. x.now) result (after_number w16 expected bytes.now) }
 {
@@ -42,7 +42,7 @@ pub(super) fn after_u16(bytes: &[u8], expected: u16) -> Result<&[u8], FirstFault
 }
 
 /// The bytes after a number of four bytes, which must be this one.
-#[tactic(auto, unfolding(crate::specs::Reading::after_number))]
+#[tactic(auto, unfolding(crate::specs::InnerReading::after_number))]
 pub(super) fn after_u32(bytes: &[u8], expected: u32) -> Result<&[u8], FirstFault>
     ensures { Gives (λ x. x.now) result (after_number w32 expected bytes.now) }
 {
@@ -64,7 +64,7 @@ pub(super) fn front_of(bytes: &[u8], count: usize) -> Result<(&[u8], &[u8]), Fir
 }
 
 /// The bytes behind their number of two bytes, and the bytes after them.
-#[tactic(auto, unfolding(crate::specs::Reading::sized_at))]
+#[tactic(auto, unfolding(crate::specs::InnerReading::sized_at))]
 pub(super) fn short_text(bytes: &[u8]) -> Result<(&[u8], &[u8]), FirstFault>
     ensures { Gives (λ x. (x.0.now, x.1.now)) result (sized_at w16 bytes.now) }
 {
@@ -73,7 +73,7 @@ pub(super) fn short_text(bytes: &[u8]) -> Result<(&[u8], &[u8]), FirstFault>
 }
 
 /// Two numbers of two bytes, and the bytes after them.
-#[tactic(auto, unfolding(crate::specs::Reading::pair_at))]
+#[tactic(auto, unfolding(crate::specs::InnerReading::pair_at))]
 pub(super) fn u16_pair(bytes: &[u8]) -> Result<(u16, u16, &[u8]), FirstFault>
     ensures { Gives (λ x. ((x.0, x.1), x.2.now)) result (pair_at bytes.now) }
 {
@@ -83,7 +83,7 @@ pub(super) fn u16_pair(bytes: &[u8]) -> Result<(u16, u16, &[u8]), FirstFault>
 }
 
 /// The bytes behind their number of four bytes, and the bytes after them.
-#[tactic(auto, unfolding(crate::specs::Reading::sized_at))]
+#[tactic(auto, unfolding(crate::specs::InnerReading::sized_at))]
 pub(super) fn long_bytes(bytes: &[u8]) -> Result<(&[u8], &[u8]), FirstFault>
     ensures { Gives (λ x. (x.0.now, x.1.now)) result (sized_at w32 bytes.now) }
 {

@@ -1,8 +1,8 @@
 //! The instructions of the code (JVM specification, 6.5).
 
 ghost use Rattle.std.specs.Prelude.{◌≡◌, ◌<◌, ◌^◌, length, IfOk};
-ghost use Rattle.ja_class.specs.Reading.{Gives, byte_at, call_at, constant_at, operation_at, step_from, code_from};
-ghost use Rattle.ja_class.specs.Views.{entries};
+ghost use Rattle.ja_class.specs.InnerReading.{Gives, byte_at, call_at, constant_at, operation_at, step_from, code_from};
+ghost use Rattle.ja_class.specs.InnerViews.{entries};
 
 use super::bytes::{u8_at, u16_at};
 use super::constant::Constant;
@@ -14,7 +14,7 @@ use ja_code::number::{
 use std::alloc::Global;
 
 /// The operation that pushes the constant with an index, which must be a text.
-#[tactic(auto, unfolding(crate::specs::Reading::constant_at))]
+#[tactic(auto, unfolding(crate::specs::InnerReading::constant_at))]
 fn text_constant(pool: &[Constant<'_>], index: u8) -> Result<FirstOp, FirstFault>
     ensures { Gives (λ x. x) result (constant_at (entries pool.now) index) }
 {
@@ -25,7 +25,7 @@ fn text_constant(pool: &[Constant<'_>], index: u8) -> Result<FirstOp, FirstFault
 }
 
 /// The call of the method with an index.
-#[tactic(auto, unfolding(crate::specs::Reading::call_at))]
+#[tactic(auto, unfolding(crate::specs::InnerReading::call_at))]
 fn method_call(pool: &[Constant<'_>], index: u16) -> Result<FirstOp, FirstFault>
     ensures { Gives (λ x. x) result (call_at (entries pool.now) index) }
 {
@@ -38,7 +38,7 @@ fn method_call(pool: &[Constant<'_>], index: u16) -> Result<FirstOp, FirstFault>
 }
 
 /// The operation behind its opcode, and the code after it.
-#[tactic(auto, unfolding(crate::specs::Reading::operation_at))]
+#[tactic(auto, unfolding(crate::specs::InnerReading::operation_at))]
 fn operation<'a>(
     pool: &[Constant<'_>],
     opcode: u8,
@@ -72,7 +72,7 @@ fn operation<'a>(
 }
 
 /// The operation at the front of the code, and the code after it.
-#[tactic(auto, unfolding(crate::specs::Reading::step_from))]
+#[tactic(auto, unfolding(crate::specs::InnerReading::step_from))]
 fn step_of<'a>(pool: &[Constant<'_>], code: &'a [u8]) -> Result<(FirstOp, &'a [u8]), FirstFault>
     ensures value { Gives (λ x. (x.0, x.1.now)) result (step_from (entries pool.now) code.now) }
     ensures shorter { IfOk result (λ x. length x.1.now < length code.now) }

@@ -1,7 +1,7 @@
 //! The frame of a method as its instructions run.
 
 ghost use Rattle.std.specs.Prelude.{◌≡◌, ◌≤◌, IfSome};
-ghost use Rattle.ja_class.specs.Reading.{frame_after, first_frame, is_return, runs, is_runnable};
+ghost use Rattle.ja_class.specs.InnerReading.{frame_after, first_frame, is_return, runs, is_runnable};
 
 use super::{FirstInstr, FirstOp};
 
@@ -32,7 +32,7 @@ fn first_frame(locals: u16, stack: u16) -> Frame
 }
 
 /// The frame after an operation, if it finds what it needs. A return has none.
-#[tactic(auto, unfolding(crate::specs::Reading::frame_after))]
+#[tactic(auto, unfolding(crate::specs::InnerReading::frame_after))]
 fn frame_after(frame: Frame, op: FirstOp) -> Option<Frame>
     requires { frame.locals ≤ 10 }
     ensures value { result ≡ frame_after frame op }
@@ -97,7 +97,7 @@ fn runs(first: Frame, code: &[FirstInstr]) -> bool
 
 /// Whether a frame has a local for the argument and at most ten values, and the instructions
 /// run in it to a return at their end.
-#[tactic(auto, unfolding(crate::specs::Reading::is_runnable))]
+#[tactic(auto, unfolding(crate::specs::InnerReading::is_runnable))]
 pub(super) fn is_runnable(locals: u16, stack: u16, code: &[FirstInstr]) -> bool
     ensures { result ≡ is_runnable locals stack code.now }
 {

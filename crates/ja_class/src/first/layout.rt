@@ -1,8 +1,8 @@
 //! The parts of a class file, as they lie in its bytes.
 
 ghost use Rattle.std.specs.Prelude.{◌≡◌};
-ghost use Rattle.ja_class.specs.Reading.{Gives, version_from, class_from, content_from, attribute_from, method_from, file_from};
-ghost use Rattle.ja_class.specs.Views.{code_view, method_view, file_view};
+ghost use Rattle.ja_class.specs.InnerReading.{Gives, version_from, class_from, content_from, attribute_from, method_from, file_from};
+ghost use Rattle.ja_class.specs.InnerViews.{code_view, method_view, file_view};
 
 use super::FirstFault;
 use super::bytes::{after_u16, after_u32, long_bytes, u16_at, u16_pair, u32_at};
@@ -41,7 +41,7 @@ pub(super) struct ClassFile<'a> {
 }
 
 /// The version behind the magic number, and the bytes after it.
-#[tactic(auto, unfolding(crate::specs::Reading::version_from))]
+#[tactic(auto, unfolding(crate::specs::InnerReading::version_from))]
 fn version_of(bytes: &[u8]) -> Result<(u16, u16, &[u8]), FirstFault>
     ensures { Gives (λ x. ((x.0, x.1), x.2.now)) result (version_from bytes.now) }
 {
@@ -51,7 +51,7 @@ fn version_of(bytes: &[u8]) -> Result<(u16, u16, &[u8]), FirstFault>
 
 /// The flags, the class and its superclass. Behind them stand the counts of no interface, no
 /// field and one method, and then the bytes that are left.
-#[tactic(auto, unfolding(crate::specs::Reading::class_from))]
+#[tactic(auto, unfolding(crate::specs::InnerReading::class_from))]
 fn class_of(bytes: &[u8]) -> Result<(u16, u16, u16, &[u8]), FirstFault>
     ensures { Gives (λ x. ((x.0, (x.1, x.2)), x.3.now)) result (class_from bytes.now) }
 {
@@ -65,7 +65,7 @@ fn class_of(bytes: &[u8]) -> Result<(u16, u16, u16, &[u8]), FirstFault>
 
 /// The frame's size, stack first, and the code. Behind it stand the counts of no exception
 /// entry and no attribute, and then the bytes that are left.
-#[tactic(auto, unfolding(crate::specs::Reading::content_from))]
+#[tactic(auto, unfolding(crate::specs::InnerReading::content_from))]
 fn content_of(bytes: &[u8]) -> Result<(u16, u16, &[u8], &[u8]), FirstFault>
     ensures { Gives (λ x. (((x.0, x.1), x.2.now), x.3.now)) result (content_from bytes.now) }
 {
@@ -77,7 +77,7 @@ fn content_of(bytes: &[u8]) -> Result<(u16, u16, &[u8], &[u8]), FirstFault>
 }
 
 /// A Code attribute, and the bytes after it.
-#[tactic(auto, unfolding(crate::specs::Reading::attribute_from))]
+#[tactic(auto, unfolding(crate::specs::InnerReading::attribute_from))]
 fn attribute_of(bytes: &[u8]) -> Result<(CodeAttribute<'_>, &[u8]), FirstFault>
     ensures { Gives (λ x. (code_view x.0, x.1.now)) result (attribute_from bytes.now) }
 {
@@ -97,7 +97,7 @@ fn attribute_of(bytes: &[u8]) -> Result<(CodeAttribute<'_>, &[u8]), FirstFault>
 }
 
 /// A method that is public and static and has one attribute, and the bytes after it.
-#[tactic(auto, unfolding(crate::specs::Reading::method_from))]
+#[tactic(auto, unfolding(crate::specs::InnerReading::method_from))]
 fn method_of(bytes: &[u8]) -> Result<(MethodInfo<'_>, &[u8]), FirstFault>
     ensures { Gives (λ x. (method_view x.0, x.1.now)) result (method_from bytes.now) }
 {
@@ -114,7 +114,7 @@ fn method_of(bytes: &[u8]) -> Result<(MethodInfo<'_>, &[u8]), FirstFault>
 }
 
 /// A class file, all of the bytes.
-#[tactic(auto, unfolding(crate::specs::Reading::file_from))]
+#[tactic(auto, unfolding(crate::specs::InnerReading::file_from))]
 pub(super) fn file_of(alloc: Global, bytes: &[u8]) -> Result<ClassFile<'_>, FirstFault>
     ensures { Gives file_view result (file_from bytes.now) }
 {

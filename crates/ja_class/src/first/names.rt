@@ -3,8 +3,8 @@
 ghost use Rattle.std.specs.Prelude.{◌≡◌, option_map};
 ghost use Rattle.std.specs.List.{list_all};
 ghost use Rattle.ja_class.specs.Pool.{entry_at};
-ghost use Rattle.ja_class.specs.Reading.{text_at, class_at, is_this, left_after, is_utf8, member_named, member_at, is_allowed};
-ghost use Rattle.ja_class.specs.Views.{entry_view, entries};
+ghost use Rattle.ja_class.specs.InnerReading.{text_at, class_at, is_this, left_after, is_utf8, member_named, member_at, is_allowed};
+ghost use Rattle.ja_class.specs.InnerViews.{entry_view, entries};
 
 use super::FirstOp;
 use super::constant::Constant;
@@ -20,7 +20,7 @@ pub(super) fn constant_at<'a>(pool: &[Constant<'a>], index: u16) -> Option<Const
 }
 
 /// The text with an index.
-#[tactic(auto, unfolding(crate::specs::Reading::text_at))]
+#[tactic(auto, unfolding(crate::specs::InnerReading::text_at))]
 pub(super) fn text_of<'a>(pool: &[Constant<'a>], index: u16) -> Option<&'a [u8]>
     ensures { option_map (λ x. x.now) result ≡ text_at (entries pool.now) index }
 {
@@ -31,7 +31,7 @@ pub(super) fn text_of<'a>(pool: &[Constant<'a>], index: u16) -> Option<&'a [u8]>
 }
 
 /// The name of the class with an index.
-#[tactic(auto, unfolding(crate::specs::Reading::class_at))]
+#[tactic(auto, unfolding(crate::specs::InnerReading::class_at))]
 pub(super) fn class_name<'a>(pool: &[Constant<'a>], index: u16) -> Option<&'a [u8]>
     ensures { option_map (λ x. x.now) result ≡ class_at (entries pool.now) index }
 {
@@ -52,7 +52,7 @@ pub(super) fn is_text(found: Option<&[u8]>, text: &[u8]) -> bool
 }
 
 /// How many bytes of a character are left after a byte, where more were left before it.
-#[tactic(auto, unfolding(crate::specs::Reading::left_after))]
+#[tactic(auto, unfolding(crate::specs::InnerReading::left_after))]
 fn left_after(more: u8, byte: u8) -> Option<u8>
     ensures { result ≡ left_after more byte }
 {
@@ -103,7 +103,7 @@ fn taint_member(class: &[u8], name: &[u8], descriptor: &[u8]) -> Option<FirstOp>
 }
 
 /// The call that a class's index and the index of a name and a descriptor make.
-#[tactic(auto, unfolding(crate::specs::Reading::member_at))]
+#[tactic(auto, unfolding(crate::specs::InnerReading::member_at))]
 pub(super) fn call_of(pool: &[Constant<'_>], class: u16, member: u16) -> Option<FirstOp>
     ensures { result ≡ member_at (entries pool.now) class member }
 {
@@ -119,7 +119,7 @@ pub(super) fn call_of(pool: &[Constant<'_>], class: u16, member: u16) -> Option<
 }
 
 /// Whether the first form allows an entry of a pool.
-#[tactic(auto, unfolding(crate::specs::Reading::is_allowed))]
+#[tactic(auto, unfolding(crate::specs::InnerReading::is_allowed))]
 fn allows(pool: &[Constant<'_>], constant: Constant<'_>) -> bool
     ensures { result ≡ is_allowed (entries pool.now) (entry_view constant.entry) }
 {

@@ -1,8 +1,8 @@
 //! The constant pool.
 
 ghost use Rattle.std.specs.Prelude.{◌≡◌};
-ghost use Rattle.ja_class.specs.Reading.{Gives, tagged_at, entry_from, entries_from, pool_from};
-ghost use Rattle.ja_class.specs.Views.{entry_view, entries};
+ghost use Rattle.ja_class.specs.InnerReading.{Gives, tagged_at, entry_from, entries_from, pool_from};
+ghost use Rattle.ja_class.specs.InnerViews.{entry_view, entries};
 
 use super::bytes::{short_text, u16_at, u16_pair};
 use super::{Constant, FirstFault};
@@ -10,7 +10,7 @@ use ja_base::tag::{CLASS, METHOD, NAME_AND_TYPE, STRING, UTF8};
 use std::alloc::Global;
 
 /// The entry behind its tag, and the bytes after it.
-#[tactic(auto, unfolding(crate::specs::Reading::tagged_at))]
+#[tactic(auto, unfolding(crate::specs::InnerReading::tagged_at))]
 fn tagged(tag: u8, bytes: &[u8]) -> Result<(Constant<'_>, &[u8]), FirstFault>
     ensures { Gives (λ x. (entry_view x.0, x.1.now)) result (tagged_at tag bytes.now) }
 {
@@ -40,7 +40,7 @@ fn tagged(tag: u8, bytes: &[u8]) -> Result<(Constant<'_>, &[u8]), FirstFault>
 }
 
 /// An entry, and the bytes after it.
-#[tactic(auto, unfolding(crate::specs::Reading::entry_from))]
+#[tactic(auto, unfolding(crate::specs::InnerReading::entry_from))]
 fn constant_of(bytes: &[u8]) -> Result<(Constant<'_>, &[u8]), FirstFault>
     ensures { Gives (λ x. (entry_view x.0, x.1.now)) result (entry_from bytes.now) }
 {
@@ -69,7 +69,7 @@ fn constants_of(
 }
 
 /// The pool behind its count, and the bytes after it.
-#[tactic(auto, unfolding(crate::specs::Reading::pool_from))]
+#[tactic(auto, unfolding(crate::specs::InnerReading::pool_from))]
 pub(super) fn pool_of(alloc: Global, bytes: &[u8]) -> Result<(Vec<Constant<'_>>, &[u8]), FirstFault>
     ensures { Gives (λ x. (entries x.0.items, x.1.now)) result (pool_from bytes.now) }
 {

@@ -1,10 +1,10 @@
 //! The one method of a class file of the first form.
 
 ghost use Rattle.std.specs.Prelude.{◌≡◌, ◌<◌, ◌^◌, ℕ, List, length, IsTrue, IfOk, IsErrOf};
-ghost use Rattle.ja_class.specs.Reading.{Gives, has_numbers, has_names, is_program_name, program_name, runnable_code, method_in, method_from_bytes};
+ghost use Rattle.ja_class.specs.InnerReading.{Gives, has_numbers, has_names, is_program_name, program_name, runnable_code, method_in, method_from_bytes};
 ghost use Rattle.ja_class.specs.declared.first.FirstMethod.{FirstMethod};
 ghost use Rattle.ja_class.specs.FirstForm.{IsFirstForm};
-ghost use Rattle.ja_class.specs.Views.{code_view, entries, file_view};
+ghost use Rattle.ja_class.specs.InnerViews.{code_view, entries, file_view};
 
 use super::code::code_of;
 use super::constant::Constant;
@@ -17,7 +17,7 @@ use ja_base::access_flags::{ABSTRACT, INTERFACE};
 use std::alloc::Global;
 
 /// Whether the version, the flags and the code's length are those of the first form.
-#[tactic(auto, unfolding(crate::specs::Reading::has_numbers))]
+#[tactic(auto, unfolding(crate::specs::InnerReading::has_numbers))]
 fn has_numbers(file: &ClassFile<'_>) -> bool
     ensures value { result ≡ has_numbers (file_view file.now) }
     ensures short { IsTrue result → length file.now.method.code.code.now < 2 ^ 16 }
@@ -31,7 +31,7 @@ fn has_numbers(file: &ClassFile<'_>) -> bool
 }
 
 /// Whether the names of superclass, method and attribute are those of the first form.
-#[tactic(auto, unfolding(crate::specs::Reading::has_names))]
+#[tactic(auto, unfolding(crate::specs::InnerReading::has_names))]
 fn has_names(file: &ClassFile<'_>) -> bool
     ensures { result ≡ has_names (file_view file.now) }
 {
@@ -47,7 +47,7 @@ fn has_names(file: &ClassFile<'_>) -> bool
 }
 
 /// Whether a name may be that of a class of the program.
-#[tactic(auto, unfolding(crate::specs::Reading::is_program_name))]
+#[tactic(auto, unfolding(crate::specs::InnerReading::is_program_name))]
 fn is_program_name(name: &[u8]) -> bool
     ensures { result ≡ is_program_name name.now }
 {
@@ -55,7 +55,7 @@ fn is_program_name(name: &[u8]) -> bool
 }
 
 /// The name of the class with an index, which must be one of the program.
-#[tactic(auto, unfolding(crate::specs::Reading::program_name))]
+#[tactic(auto, unfolding(crate::specs::InnerReading::program_name))]
 fn program_name<'a>(pool: &[Constant<'a>], index: u16) -> Result<&'a [u8], FirstFault>
     ensures { Gives (λ x. x.now) result (program_name (entries pool.now) index) }
 {
@@ -66,7 +66,7 @@ fn program_name<'a>(pool: &[Constant<'a>], index: u16) -> Result<&'a [u8], First
 }
 
 /// The instructions of a Code attribute, which must run.
-#[tactic(auto, unfolding(crate::specs::Reading::runnable_code))]
+#[tactic(auto, unfolding(crate::specs::InnerReading::runnable_code))]
 fn runnable_code(
     alloc: Global,
     pool: &[Constant<'_>],
@@ -83,7 +83,7 @@ fn runnable_code(
 }
 
 /// The method of a class file.
-#[tactic(auto, unfolding(crate::specs::Reading::method_in))]
+#[tactic(auto, unfolding(crate::specs::InnerReading::method_in))]
 fn method_in(alloc: Global, file: &ClassFile<'_>) -> Result<FirstMethod, FirstFault>
     ensures { Gives (λ x. x) result (method_in (file_view file.now)) }
 {
@@ -103,7 +103,7 @@ fn method_in(alloc: Global, file: &ClassFile<'_>) -> Result<FirstMethod, FirstFa
 }
 
 /// The method that the bytes spell.
-#[tactic(auto, unfolding(crate::specs::Reading::method_from_bytes))]
+#[tactic(auto, unfolding(crate::specs::InnerReading::method_from_bytes))]
 fn method_from_bytes(alloc: Global, bytes: &[u8]) -> Result<FirstMethod, FirstFault>
     ensures { Gives (λ x. x) result (method_from_bytes bytes.now) }
 {

@@ -1,6 +1,6 @@
 use Rattle.std.proofs.Common.{◌≡◌, ◌+◌, cond, Some, None, refl, sym, ap, ◌∙◌}
 use Rattle.ja_assembly.specs.Members.{place_of_label, is_label_of, size_of_opcode, instructions_in}
-use Rattle.ja_assembly.specs.Labels.{places, or_else}
+use Rattle.ja_assembly.specs.InnerLabels.{places, or_else}
 use Rattle.ja_assembly.proofs.LabelPlaces.{given_more, none_more}
 use Rattle.ja_assembly.proofs.labels.labels_of.Goals as goal
 

@@ -1,6 +1,6 @@
 use Rattle.std.proofs.Common.{◌≡◌, ℕ, List, length}
 use Rattle.ja_assembly.specs.Members.{place_of_label, instructions_in}
-use Rattle.ja_assembly.specs.Labels.{places, or_else}
+use Rattle.ja_assembly.specs.InnerLabels.{places, or_else}
 use Rattle.ja_assembly.proofs.labels.labels_of.Given as goal
 
 -- a label stands before the rest, or in it

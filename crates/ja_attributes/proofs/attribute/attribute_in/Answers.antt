@@ -3,7 +3,7 @@ use Rattle.std.proofs.lemmas.Result.{err_from_is_err_and}
 use Rattle.ja_attributes.specs.declared.fault.AttributeFault.TheVariants.{End}
 use Rattle.ja_attributes.specs.Part.{Reads}
 use Rattle.std.specs.Prelude.{Err}
-use Rattle.ja_attributes.specs.Steps.{IsWithin, onward, seen, head}
+use Rattle.ja_attributes.specs.InnerSteps.{IsWithin, onward, seen, head}
 use Rattle.ja_attributes.proofs.Heads.{head_name, head_length, head_cut, head_at, onward_passes, name_within, bytes_within, place_fits, front_within}
 use Rattle.ja_attributes.proofs.attribute.attribute_in.Goals as goal
 

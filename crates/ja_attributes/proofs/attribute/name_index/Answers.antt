@@ -1,7 +1,7 @@
 use Rattle.std.proofs.Common.{◌∙◌, ap, sym}
 use Rattle.std.proofs.lemmas.Result.{err_from_is_err_and}
 use Rattle.ja_pool.specs.Table.{tag_at}
-use Rattle.ja_attributes.specs.Steps.{onward}
+use Rattle.ja_attributes.specs.InnerSteps.{onward}
 use Rattle.ja_attributes.proofs.Heads.{name_cut, name_wrong, name_read}
 use Rattle.ja_attributes.proofs.attribute.name_index.Goals as goal
 

@@ -1,5 +1,5 @@
 use Rattle.std.proofs.Common.{arith}
-use Rattle.ja_attributes.specs.Steps.{seen, head}
+use Rattle.ja_attributes.specs.InnerSteps.{seen, head}
 use Rattle.ja_attributes.proofs.Heads.{start_reads}
 use Rattle.ja_attributes.proofs.attribute.next_attribute.Goals as goal
 

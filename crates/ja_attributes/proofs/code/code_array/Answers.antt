@@ -2,7 +2,7 @@ use Rattle.std.proofs.Common.{◌+◌, ◌<◌, ℕ, length, sym, subst, ◌∙�
 use Rattle.std.proofs.lemmas.Result.{err_from_is_err_and}
 use Rattle.ja_attributes.specs.declared.fault.AttributeFault.TheVariants.{End}
 use Rattle.ja_attributes.specs.Faults.{code_array}
-use Rattle.ja_attributes.specs.Steps.{onward}
+use Rattle.ja_attributes.specs.InnerSteps.{onward}
 use Rattle.ja_attributes.proofs.Heads.{onward_passes}
 use Rattle.ja_attributes.proofs.Codes.{array_cut, array_wrong, array_end, array_read}
 use Rattle.ja_attributes.proofs.code.code_array.Goals as goal

@@ -6,7 +6,7 @@ use Rattle.ja_code.specs.Grammar.{Spells}
 use Rattle.ja_code.specs.Faults.{IsCause}
 use Rattle.ja_attributes.specs.declared.fault.AttributeFault.TheVariants.{Memory}
 use Rattle.ja_attributes.specs.Faults.{Layout, code_layout}
-use Rattle.ja_attributes.specs.Steps.{onward, behind_all, seen, content_of}
+use Rattle.ja_attributes.specs.InnerSteps.{onward, behind_all, seen, content_of}
 use Rattle.ja_attributes.proofs.Codes.{content_start, content_cut, content_whole, content_undecodable, content_read}
 use Rattle.ja_attributes.proofs.code.code_content.Goals as goal
 

@@ -1,6 +1,6 @@
 use Rattle.std.proofs.Common.{inr}
 use Rattle.std.proofs.lemmas.Result.{err_from_is_err_and}
-use Rattle.ja_attributes.specs.Steps.{onward}
+use Rattle.ja_attributes.specs.InnerSteps.{onward}
 use Rattle.ja_attributes.proofs.Codes.{or_later, more_left, none_left, layout_1, layout_2, layout_3, layout_4, layout_5, layout_6, layout_left, layout_read, within_3, within_4, within_5}
 use Rattle.ja_attributes.proofs.code.fields_of.Goals as goal
 

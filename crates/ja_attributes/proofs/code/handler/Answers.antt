@@ -1,7 +1,7 @@
 use Rattle.std.proofs.Common.{inl, inr, refl}
 use Rattle.std.proofs.lemmas.Result.{err_from_is_err_and}
 use Rattle.ja_attributes.specs.Faults.{handler}
-use Rattle.ja_attributes.specs.Steps.{onward}
+use Rattle.ja_attributes.specs.InnerSteps.{onward}
 use Rattle.ja_attributes.proofs.code.handler.Goals as goal
 
 pub returns-in_err-start : goal.returns-in_err-start

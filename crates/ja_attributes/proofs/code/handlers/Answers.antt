@@ -3,7 +3,7 @@ use Rattle.std.proofs.lemmas.Result.{err_from_is_err_and}
 use Rattle.ja_code.specs.declared.handler.RawHandler.{RawHandler}
 use Rattle.ja_attributes.specs.Faults.{handler}
 use Rattle.ja_attributes.specs.Part.{times}
-use Rattle.ja_attributes.specs.Steps.{onward}
+use Rattle.ja_attributes.specs.InnerSteps.{onward}
 use Rattle.ja_attributes.proofs.Completes.{Completes, times_step, times_stop, times_done}
 use Rattle.ja_attributes.proofs.Exact.{handler_exact}
 use Rattle.ja_attributes.proofs.Heads.{stays_within}

@@ -2,7 +2,7 @@ use Rattle.std.proofs.Common.{◌≡◌, List, ◌++◌, length, ◌-◌}
 use Rattle.ja_code.specs.declared.handler.RawHandler.{RawHandler}
 use Rattle.ja_attributes.specs.Faults.{handler}
 use Rattle.ja_attributes.specs.Part.{times}
-use Rattle.ja_attributes.specs.Steps.{IsWithin, onward}
+use Rattle.ja_attributes.specs.InnerSteps.{IsWithin, onward}
 use Rattle.ja_attributes.proofs.Completes.{Completes}
 use Rattle.ja_attributes.proofs.code.handlers.Given as goal
 

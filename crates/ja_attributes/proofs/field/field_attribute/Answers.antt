@@ -1,6 +1,6 @@
 use Rattle.std.proofs.Common.{sym, ◌∙◌}
 use Rattle.std.proofs.lemmas.Result.{err_from_is_err_and}
-use Rattle.ja_attributes.specs.Steps.{seen}
+use Rattle.ja_attributes.specs.InnerSteps.{seen}
 use Rattle.ja_attributes.proofs.Heads.{head_named}
 use Rattle.ja_attributes.proofs.Fields.{field_cut, field_other, field_reads}
 use Rattle.ja_attributes.proofs.field.field_attribute.Goals as goal

@@ -1,7 +1,7 @@
 use Rattle.std.proofs.Common.{not, sym, ap, ◌∙◌, arith}
 use Rattle.ja_pool.specs.Table.{tag_at}
 use Rattle.ja_attributes.specs.Attribute.{is_value_tag}
-use Rattle.ja_attributes.specs.Steps.{seen}
+use Rattle.ja_attributes.specs.InnerSteps.{seen}
 use Rattle.ja_attributes.proofs.Fields.{constant_second, constant_size, constant_wrong, constant_read}
 use Rattle.ja_attributes.proofs.field.first_constant.Goals as goal
 

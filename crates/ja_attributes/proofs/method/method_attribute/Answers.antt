@@ -1,6 +1,6 @@
 use Rattle.std.proofs.Common.{inr, sym, ◌∙◌}
 use Rattle.std.proofs.lemmas.Result.{err_from_is_err_and}
-use Rattle.ja_attributes.specs.Steps.{seen, behind_all, content_of}
+use Rattle.ja_attributes.specs.InnerSteps.{seen, behind_all, content_of}
 use Rattle.ja_attributes.proofs.Heads.{head_named}
 use Rattle.ja_attributes.proofs.Codes.{method_cut, method_other, method_code, method_reads}
 use Rattle.ja_attributes.proofs.method.method_attribute.Goals as goal

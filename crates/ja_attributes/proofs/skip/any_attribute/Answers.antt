@@ -1,5 +1,5 @@
 use Rattle.std.proofs.lemmas.Result.{err_from_is_err_and}
-use Rattle.ja_attributes.specs.Steps.{onward, seen}
+use Rattle.ja_attributes.specs.InnerSteps.{onward, seen}
 use Rattle.ja_attributes.proofs.Heads.{any_read, any_cut}
 use Rattle.ja_attributes.proofs.skip.any_attribute.Goals as goal
 

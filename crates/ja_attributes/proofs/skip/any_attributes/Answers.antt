@@ -2,7 +2,7 @@ use Rattle.std.proofs.Common.{◌≡◌, ◌+◌, ◌-◌, suc, inl, inr, arith}
 use Rattle.std.proofs.lemmas.Result.{err_from_is_err_and}
 use Rattle.std.specs.Prelude.{⊤}
 use Rattle.ja_attributes.specs.Faults.{any_attribute, any_attributes}
-use Rattle.ja_attributes.specs.Steps.{onward}
+use Rattle.ja_attributes.specs.InnerSteps.{onward}
 use Rattle.ja_attributes.proofs.Completes.{fold_start, fold_step, fold_stop, fold_done}
 use Rattle.ja_attributes.proofs.Exact.{any_attribute_exact}
 use Rattle.ja_attributes.proofs.Heads.{u2_within, stays_within}

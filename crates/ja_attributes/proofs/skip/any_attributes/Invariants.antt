@@ -2,7 +2,7 @@ use Rattle.std.proofs.Common.{◌-◌}
 use Rattle.std.specs.Prelude.{⊤}
 use Rattle.ja_attributes.specs.Faults.{any_attribute}
 use Rattle.ja_attributes.specs.Part.{fold}
-use Rattle.ja_attributes.specs.Steps.{IsWithin, onward}
+use Rattle.ja_attributes.specs.InnerSteps.{IsWithin, onward}
 use Rattle.ja_attributes.proofs.Completes.{Completes}
 use Rattle.ja_attributes.proofs.skip.any_attributes.Given as goal
 

@@ -1,6 +1,6 @@
 use Rattle.std.proofs.Common.{◌≡◌, drop}
 use Rattle.ja_code.specs.Faults.{first_failing, branch_checks}
-use Rattle.ja_code.specs.Reading.{marked}
+use Rattle.ja_code.specs.InnerReading.{marked}
 use Rattle.ja_code.proofs.branch.check_branches.Given as goal
 
 -- the first fault is among the instructions that are left

@@ -1,6 +1,6 @@
 use Rattle.std.proofs.Common.{◌≡◌, ℕ, ◌-◌, ◌≤◌, length, take}
 use Rattle.ja_code.specs.Grammar.{AreInstrs, is_start}
-use Rattle.ja_code.specs.Reading.{marked}
+use Rattle.ja_code.specs.InnerReading.{marked}
 use Rattle.ja_code.proofs.code.instrs_of.Given as goal
 
 -- the code up to pc spells the instructions so far, and their starts are marked

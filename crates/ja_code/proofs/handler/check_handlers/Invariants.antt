@@ -1,6 +1,6 @@
 use Rattle.std.proofs.Common.{◌≡◌, drop, length}
 use Rattle.ja_code.specs.Faults.{first_failing, handler_checks}
-use Rattle.ja_code.specs.Reading.{marked}
+use Rattle.ja_code.specs.InnerReading.{marked}
 use Rattle.ja_code.proofs.handler.check_handlers.Given as goal
 
 -- the first fault is among the entries that are left

@@ -1,6 +1,6 @@
 use Rattle.std.proofs.Common.{sym, subst}
 use Rattle.ja_hier.proofs.Indexed.{supertypes-cover}
-use Rattle.ja_hier.specs.Index.{Covers}
+use Rattle.ja_hier.specs.InnerIndex.{Covers}
 use Rattle.ja_hier.proofs.above.fewer.Goals as goal
 
 pub returns-then-supertypes-listed : goal.returns-then-supertypes-listed

@@ -4,7 +4,7 @@ use Rattle.std.proofs.lemmas.Option.{slice_get_within}
 use Rattle.std.proofs.lemmas.List.Elements.{Contains-get_or}
 use Rattle.ja_supertypes.proofs.Up.{superclass-supertype}
 use Rattle.ja_base.specs.Index.{numbers_at}
-use Rattle.ja_hier.specs.Index.{HidesAt}
+use Rattle.ja_hier.specs.InnerIndex.{HidesAt}
 use Rattle.ja_hier.proofs.Crossings.{crosses-from, crosses-noted}
 use Rattle.ja_hier.proofs.Indexed.{at-item}
 use Rattle.ja_hier.proofs.crossing.crosses.Goals as goal

@@ -1,5 +1,5 @@
 use Rattle.std.proofs.Common.{ℕ, ◌<◌, get_or}
-use Rattle.ja_hier.specs.Index.{HidesAt}
+use Rattle.ja_hier.specs.InnerIndex.{HidesAt}
 use Rattle.ja_hier.proofs.crossing.crosses.Given as goal
 
 abbrev pub invariant-loop-other : goal.invariant-loop-other

@@ -1,6 +1,6 @@
 use Rattle.std.proofs.Common.{◌≡◌, ℕ, List, sym, ap, ◌∙◌}
 use Rattle.std.specs.Prelude.{is_some}
-use Rattle.ja_hier.specs.Index.{first_place, is_hidden}
+use Rattle.ja_hier.specs.InnerIndex.{first_place, is_hidden}
 use Rattle.ja_hier.proofs.ByPlace.{hidden-there, hidden-found}
 use Rattle.ja_hier.proofs.crossing.declares_hidden.Goals as goal
 

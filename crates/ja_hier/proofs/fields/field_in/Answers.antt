@@ -3,7 +3,7 @@ use Rattle.std.specs.Prelude.{Option, Some, slice_get, ◌&&◌, bytes_eq, posit
 use Rattle.ja_ir.specs.declared.head.ClassHead.{ClassHead}
 use Rattle.ja_ir.specs.declared.head.HeadField.{HeadField}
 use Rattle.ja_hier.specs.declared.starts.Member.TheVariants.{Field}
-use Rattle.ja_hier.specs.Index.{first_place, is_field}
+use Rattle.ja_hier.specs.InnerIndex.{first_place, is_field}
 use Rattle.ja_hier.specs.LookUps.{fields_of}
 use Rattle.ja_hier.proofs.ByPlace.{class-places, first-field}
 use Rattle.ja_hier.proofs.fields.field_in.Goals as goal

@@ -1,5 +1,5 @@
 use Rattle.std.proofs.Common.{◌≡◌, drop}
-use Rattle.ja_hier.specs.Index.{first_place, is_field}
+use Rattle.ja_hier.specs.InnerIndex.{first_place, is_field}
 use Rattle.ja_hier.proofs.fields.first_field.Given as goal
 
 -- there is none at the places so far

@@ -1,7 +1,7 @@
 use Rattle.std.proofs.Common.{◌≡◌, ℕ, ◌<◌, inl, inr, length, get_or, true, refl, sym, ap, ◌∙◌, arith, below_more}
 use Rattle.std.specs.Prelude.{Option, Some, is_some}
 use Rattle.std.proofs.lemmas.List.Elements.{Contains-get_or}
-use Rattle.ja_hier.specs.Index.{DeclaresFor}
+use Rattle.ja_hier.specs.InnerIndex.{DeclaresFor}
 use Rattle.ja_hier.specs.LookUps.{field_in}
 use Rattle.ja_hier.proofs.MethodWays.{place-there, is-there}
 use Rattle.ja_hier.proofs.Indexed.{at-item, field-noted}

@@ -1,5 +1,5 @@
 use Rattle.std.proofs.Common.{ℕ, ◌<◌, get_or}
-use Rattle.ja_hier.specs.Index.{DeclaresFor}
+use Rattle.ja_hier.specs.InnerIndex.{DeclaresFor}
 use Rattle.ja_hier.proofs.fields.is_declared_above.Given as goal
 
 abbrev pub invariant-loop-other : goal.invariant-loop-other

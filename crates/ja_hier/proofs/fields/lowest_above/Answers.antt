@@ -1,7 +1,7 @@
 use Rattle.std.proofs.Common.{◌≡◌, ◌<◌, ◌+◌, ℕ, length, get_or, true, sym, subst, arith}
 use Rattle.std.specs.Prelude.{Option}
 use Rattle.std.proofs.lemmas.List.Elements.{Contains-get_or}
-use Rattle.ja_hier.specs.Index.{Meets, IsBelow}
+use Rattle.ja_hier.specs.InnerIndex.{Meets, IsBelow}
 use Rattle.ja_hier.proofs.Lowest.{IsLowestSoFar, if-some, lowest-taken, lowest-passed, lowest-found, lowest-missing}
 use Rattle.ja_hier.proofs.Straight.{above-inside, straight-above, not-lower, meets-listed}
 use Rattle.ja_supertypes.specs.Supertypes.{IsSupertype, through}

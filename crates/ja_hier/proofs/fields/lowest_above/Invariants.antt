@@ -1,5 +1,5 @@
 use Rattle.ja_supertypes.specs.Supertypes.{IsSupertype}
-use Rattle.ja_hier.specs.Index.{Meets}
+use Rattle.ja_hier.specs.InnerIndex.{Meets}
 use Rattle.ja_hier.proofs.Lowest.{IsLowestSoFar}
 use Rattle.ja_hier.proofs.fields.lowest_above.Given as goal
 

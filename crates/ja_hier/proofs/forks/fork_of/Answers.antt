@@ -1,6 +1,6 @@
 use Rattle.ja_supertypes.proofs.Falls.{direct-target}
 use Rattle.ja_supertypes.proofs.Ranks.{rank-falls}
-use Rattle.ja_hier.specs.Index.{stays}
+use Rattle.ja_hier.specs.InnerIndex.{stays}
 use Rattle.ja_hier.proofs.Straight.{straight-more, only-direct}
 use Rattle.ja_hier.proofs.forks.fork_of.Goals as goal
 

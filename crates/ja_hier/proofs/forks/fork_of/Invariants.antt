@@ -1,6 +1,6 @@
 use Rattle.std.proofs.Common.{◌<◌, length}
 use Rattle.ja_supertypes.proofs.Ranks.{rank_of}
-use Rattle.ja_hier.specs.Index.{IsStraight}
+use Rattle.ja_hier.specs.InnerIndex.{IsStraight}
 use Rattle.ja_hier.proofs.forks.fork_of.Given as goal
 
 abbrev pub invariant-loop-next : goal.invariant-loop-next

@@ -1,5 +1,5 @@
 use Rattle.std.proofs.Common.{◌≡◌, ℕ, ◌<◌, get_or, length}
-use Rattle.ja_hier.specs.Index.{IsStraight}
+use Rattle.ja_hier.specs.InnerIndex.{IsStraight}
 use Rattle.ja_hier.proofs.forks.forks.Given as goal
 
 abbrev pub invariant-loop-class : goal.invariant-loop-class

@@ -3,7 +3,7 @@ use Rattle.ja_ir.specs.declared.head.ClassHead.{ClassHead}
 use Rattle.ja_supertypes.specs.Faults.{AreClasses}
 use Rattle.ja_hier.specs.declared.starts.Member.TheVariants.{Field, Method}
 use Rattle.ja_hier.specs.declared.tables.Tables.{Tables}
-use Rattle.ja_hier.specs.Index.{AreForks, ArePlaces, AreStarts, IsIndexed, IsIndexOf}
+use Rattle.ja_hier.specs.InnerIndex.{AreForks, ArePlaces, AreStarts, IsIndexed, IsIndexOf}
 use Rattle.ja_hier.specs.Members.{count_of, IsNumbered}
 use Rattle.ja_hier.proofs.hier.tables_of.Goals as goal
 

@@ -3,7 +3,7 @@ use Rattle.std.specs.Prelude.{◌≡◌, IfErr, IfOk}
 use Rattle.ja_ir.specs.declared.head.ClassHead.{ClassHead}
 use Rattle.ja_supertypes.specs.Faults.{AreClasses}
 use Rattle.ja_hier.specs.Faults.{IsFault}
-use Rattle.ja_hier.specs.Index.{AreForks}
+use Rattle.ja_hier.specs.InnerIndex.{AreForks}
 use Rattle.ja_hier.proofs.hier.ways_of.Goals as goal
 
 pub with_forks-requires-clause-few : goal.with_forks-requires-clause-few

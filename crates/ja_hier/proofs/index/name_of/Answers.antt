@@ -4,7 +4,7 @@ use Rattle.std.proofs.lemmas.Option.{slice_get-map}
 use Rattle.ja_ir.specs.declared.head.HeadField.{HeadField}
 use Rattle.ja_ir.specs.declared.head.HeadMethod.{HeadMethod}
 use Rattle.ja_hier.specs.declared.starts.Member.{Member}
-use Rattle.ja_hier.specs.Index.{member_names}
+use Rattle.ja_hier.specs.InnerIndex.{member_names}
 use Rattle.ja_hier.proofs.index.name_of.Goals as goal
 
 pub returns-in-Field : goal.returns-in-Field

@@ -1,6 +1,6 @@
 use Rattle.std.proofs.Common.{List, ℕ, subst, arith}
 use Rattle.std.proofs.lemmas.List.{take_all}
-use Rattle.ja_hier.specs.Index.{member_names, IsNoted}
+use Rattle.ja_hier.specs.InnerIndex.{member_names, IsNoted}
 use Rattle.ja_hier.proofs.Indexed.{member-count, noted-none, noted-more}
 use Rattle.ja_hier.proofs.index.note_class.Goals as goal
 

@@ -1,5 +1,5 @@
 use Rattle.std.proofs.Common.{take}
-use Rattle.ja_hier.specs.Index.{member_names, IsNoted}
+use Rattle.ja_hier.specs.InnerIndex.{member_names, IsNoted}
 use Rattle.ja_hier.proofs.index.note_class.Given as goal
 
 abbrev pub invariant-loop-place : goal.invariant-loop-place

@@ -1,7 +1,7 @@
 use Rattle.std.proofs.Common.{◌≡◌, List, ℕ, ap, ◌∙◌, arith}
 use Rattle.std.proofs.lemmas.List.{take_all}
 use Rattle.ja_base.specs.Index.{numbers_at}
-use Rattle.ja_hier.specs.Index.{member_names, places_from}
+use Rattle.ja_hier.specs.InnerIndex.{member_names, places_from}
 use Rattle.ja_hier.proofs.Indexed.{member-count}
 use Rattle.ja_hier.proofs.ByPlace.{place-noted}
 use Rattle.ja_hier.proofs.index.places_by_name.Goals as goal

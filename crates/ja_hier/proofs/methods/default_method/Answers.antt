@@ -1,7 +1,7 @@
 use Rattle.std.specs.Prelude.{Some}
 use Rattle.std.proofs.lemmas.Option.{IfSome_then}
 use Rattle.ja_base.specs.declared.id.MethodId.{MethodId}
-use Rattle.ja_hier.specs.Index.{IsLeftNumber}
+use Rattle.ja_hier.specs.InnerIndex.{IsLeftNumber}
 use Rattle.ja_hier.specs.LookUps.{FindsDefault}
 use Rattle.ja_hier.proofs.MethodWays.{one-left, none-left, two-left}
 use Rattle.ja_hier.proofs.methods.default_method.Goals as goal

@@ -1,5 +1,5 @@
 use Rattle.std.proofs.Common.{◌≡◌, drop}
-use Rattle.ja_hier.specs.Index.{first_place, is_method}
+use Rattle.ja_hier.specs.InnerIndex.{first_place, is_method}
 use Rattle.ja_hier.proofs.methods.first_method.Given as goal
 
 -- there is none at the places so far

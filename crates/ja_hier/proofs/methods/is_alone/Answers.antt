@@ -1,6 +1,6 @@
 use Rattle.std.proofs.Common.{◌≡◌, ℕ, ◌<◌, length, get_or, arith, below_more}
 use Rattle.std.proofs.lemmas.List.Elements.{Contains-get_or}
-use Rattle.ja_hier.specs.Index.{IsSomeLeft}
+use Rattle.ja_hier.specs.InnerIndex.{IsSomeLeft}
 use Rattle.ja_hier.proofs.MethodWays.{left-listed}
 use Rattle.ja_hier.proofs.Indexed.{at-item}
 use Rattle.ja_hier.proofs.methods.is_alone.Goals as goal

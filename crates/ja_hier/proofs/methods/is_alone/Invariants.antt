@@ -1,5 +1,5 @@
 use Rattle.std.proofs.Common.{◌≡◌, ℕ, ◌<◌, get_or}
-use Rattle.ja_hier.specs.Index.{IsSomeLeft}
+use Rattle.ja_hier.specs.InnerIndex.{IsSomeLeft}
 use Rattle.ja_hier.proofs.methods.is_alone.Given as goal
 
 abbrev pub invariant-loop-other : goal.invariant-loop-other

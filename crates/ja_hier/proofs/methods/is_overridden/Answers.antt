@@ -1,6 +1,6 @@
 use Rattle.std.proofs.Common.{◌≡◌, ℕ, ◌<◌, length, get_or, true, refl, arith, below_more}
 use Rattle.std.proofs.lemmas.List.Elements.{Contains-get_or}
-use Rattle.ja_hier.specs.Index.{Overrides}
+use Rattle.ja_hier.specs.InnerIndex.{Overrides}
 use Rattle.ja_hier.proofs.MethodWays.{overriding-listed}
 use Rattle.ja_hier.proofs.Indexed.{at-item}
 use Rattle.ja_hier.proofs.methods.is_overridden.Goals as goal

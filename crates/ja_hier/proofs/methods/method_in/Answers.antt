@@ -3,7 +3,7 @@ use Rattle.std.specs.Prelude.{Option, Some, slice_get, ◌&&◌, not, bytes_eq, 
 use Rattle.ja_ir.specs.declared.head.ClassHead.{ClassHead}
 use Rattle.ja_ir.specs.declared.head.HeadMethod.{HeadMethod}
 use Rattle.ja_hier.specs.declared.starts.Member.TheVariants.{Method}
-use Rattle.ja_hier.specs.Index.{first_place, is_method}
+use Rattle.ja_hier.specs.InnerIndex.{first_place, is_method}
 use Rattle.ja_hier.specs.LookUps.{methods_of, skips}
 use Rattle.ja_hier.proofs.ByPlace.{class-places, first-method}
 use Rattle.ja_hier.proofs.methods.method_in.Goals as goal

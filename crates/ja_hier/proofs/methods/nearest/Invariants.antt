@@ -1,5 +1,5 @@
 use Rattle.ja_supertypes.specs.Supertypes.{IsSuperclass}
-use Rattle.ja_hier.specs.Index.{Inherits}
+use Rattle.ja_hier.specs.InnerIndex.{Inherits}
 use Rattle.ja_hier.proofs.Lowest.{IsLowestSoFar}
 use Rattle.ja_hier.proofs.methods.nearest.Given as goal
 

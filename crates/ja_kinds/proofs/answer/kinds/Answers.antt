@@ -5,7 +5,7 @@ use Rattle.ja_class.specs.Meaning.{ClassSpelled}
 use Rattle.ja_kinds.specs.declared.fault.KindFault.TheVariants.{Memory}
 use Rattle.ja_kinds.specs.Solution.{IsFault}
 use Rattle.ja_kinds.specs.Answer.{HasFrame}
-use Rattle.ja_kinds.specs.Solving.{AreKindsIn}
+use Rattle.ja_kinds.specs.InnerSolving.{AreKindsIn}
 use Rattle.ja_kinds.proofs.Visits.{deed_law}
 use Rattle.ja_kinds.proofs.OfClass.{IsFound, is_found, head_within, method_within, has_frame}
 use Rattle.ja_kinds.proofs.OneAnswer.{only_kinds, first_fault_of, answers_kinds, answers_fault}

@@ -1,6 +1,6 @@
 use Rattle.std.proofs.Common.{◌≡◌, take}
 use Rattle.ja_kinds.specs.Answer.{known_at}
-use Rattle.ja_kinds.specs.Solving.{state_at}
+use Rattle.ja_kinds.specs.InnerSolving.{state_at}
 use Rattle.ja_kinds.proofs.answer.known_at.Given as goal
 
 -- what is known before the instructions so far

@@ -3,7 +3,7 @@ use Rattle.std.proofs.lemmas.List.{get_or_default}
 use Rattle.ja_kinds.specs.declared.state.State.TheVariants.{Unreached}
 use Rattle.ja_code.specs.Behaviour.{behaviour_at}
 use Rattle.ja_kinds.specs.Effect.{Does}
-use Rattle.ja_kinds.specs.Solving.{state_at}
+use Rattle.ja_kinds.specs.InnerSolving.{state_at}
 use Rattle.ja_kinds.proofs.Visits.{deed_law, idle_found, does_found}
 use Rattle.ja_kinds.proofs.Firsts.{judged_answer, idle_right}
 use Rattle.ja_kinds.proofs.judge.fault_in.Goals as goal

@@ -3,7 +3,7 @@ use Rattle.std.proofs.lemmas.List.{take_all}
 use Rattle.ja_code.specs.declared.instr.RawInstr.{RawInstr}
 use Rattle.ja_kinds.specs.Effect.{IsOneOf}
 use Rattle.ja_kinds.specs.Solution.{IsRight}
-use Rattle.ja_kinds.specs.Solving.{state_at, IsFaultAt}
+use Rattle.ja_kinds.specs.InnerSolving.{state_at, IsFaultAt}
 use Rattle.ja_kinds.proofs.Firsts.{right_more, first_found}
 use Rattle.ja_kinds.proofs.judge.first_fault.Goals as goal
 

@@ -2,7 +2,7 @@ use Rattle.std.proofs.Common.{take}
 use Rattle.ja_code.specs.declared.instr.RawInstr.{RawInstr}
 use Rattle.ja_kinds.specs.Effect.{IsOneOf}
 use Rattle.ja_kinds.specs.Solution.{IsRight}
-use Rattle.ja_kinds.specs.Solving.{state_at}
+use Rattle.ja_kinds.specs.InnerSolving.{state_at}
 use Rattle.ja_kinds.proofs.judge.first_fault.Given as goal
 
 -- the instructions so far have no fault

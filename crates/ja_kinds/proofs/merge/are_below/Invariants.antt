@@ -1,5 +1,5 @@
 use Rattle.std.proofs.Common.{◌≡◌, drop}
-use Rattle.ja_kinds.specs.Merge.{are_below}
+use Rattle.ja_kinds.specs.InnerMerge.{are_below}
 use Rattle.ja_kinds.proofs.merge.are_below.Given as goal
 
 -- what is left is below exactly where all is

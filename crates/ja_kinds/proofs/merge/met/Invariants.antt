@@ -1,5 +1,5 @@
 use Rattle.std.proofs.Common.{◌≡◌, ◌++◌, drop}
-use Rattle.ja_kinds.specs.Merge.{met}
+use Rattle.ja_kinds.specs.InnerMerge.{met}
 use Rattle.ja_kinds.proofs.merge.met.Given as goal
 
 -- what is merged so far and what the rest gives are all

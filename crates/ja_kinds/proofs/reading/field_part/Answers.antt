@@ -1,6 +1,6 @@
 use Rattle.std.proofs.Common.{subst, Option}
 use Rattle.ja_base.specs.declared.java_type.Kind.{Kind}
-use Rattle.ja_kinds.specs.Reading.{FindsField}
+use Rattle.ja_kinds.specs.InnerReading.{FindsField}
 use Rattle.ja_kinds.proofs.Effects.{ok_is, field_found, field_lost}
 use Rattle.ja_kinds.proofs.reading.field_part.Goals as goal
 

@@ -1,6 +1,6 @@
 use Rattle.std.proofs.Common.{subst, Option}
 use Rattle.ja_kinds.specs.declared.pool_kinds.MethodKinds.{MethodKinds}
-use Rattle.ja_kinds.specs.Reading.{FindsMethod}
+use Rattle.ja_kinds.specs.InnerReading.{FindsMethod}
 use Rattle.ja_kinds.proofs.Effects.{ok_is, method_found, method_lost}
 use Rattle.ja_kinds.proofs.reading.method_part.Goals as goal
 

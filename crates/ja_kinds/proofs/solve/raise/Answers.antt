@@ -2,8 +2,8 @@ use Rattle.std.proofs.Common.{◌≡◌, true, get_or, set, ap, sym, subst, ◌�
 use Rattle.std.proofs.lemmas.List.{get_or_default}
 use Rattle.ja_kinds.specs.declared.state.State.{State}
 use Rattle.ja_kinds.specs.declared.state.State.TheVariants.{Unreached}
-use Rattle.ja_kinds.specs.Merge.{is_below, merge}
-use Rattle.ja_kinds.specs.Solving.{state_at, Hands}
+use Rattle.ja_kinds.specs.InnerMerge.{is_below, merge}
+use Rattle.ja_kinds.specs.InnerSolving.{state_at, Hands}
 use Rattle.ja_kinds.proofs.Hands.{hands_beyond, hands_nothing, hands_merged}
 use Rattle.ja_kinds.proofs.solve.raise.Goals as goal
 

@@ -1,7 +1,7 @@
 use Rattle.std.proofs.Common.{ℕ, List, get_or, take, subst}
 use Rattle.std.proofs.lemmas.List.{get_or_default, take_all}
 use Rattle.ja_kinds.specs.Effect.{IsOneOf}
-use Rattle.ja_kinds.specs.Solving.{Hands}
+use Rattle.ja_kinds.specs.InnerSolving.{Hands}
 use Rattle.ja_kinds.proofs.Hands.{hands_none, hands_more}
 use Rattle.ja_kinds.proofs.solve.raise_all.Goals as goal
 

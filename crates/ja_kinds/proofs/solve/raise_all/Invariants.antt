@@ -1,6 +1,6 @@
 use Rattle.std.proofs.Common.{ℕ, take}
 use Rattle.ja_kinds.specs.Effect.{IsOneOf}
-use Rattle.ja_kinds.specs.Solving.{Hands}
+use Rattle.ja_kinds.specs.InnerSolving.{Hands}
 use Rattle.ja_kinds.proofs.solve.raise_all.Given as goal
 
 -- the state was handed to the places so far

@@ -1,5 +1,5 @@
 use Rattle.std.proofs.Common.{ℕ}
-use Rattle.ja_kinds.specs.Solving.{Catches}
+use Rattle.ja_kinds.specs.InnerSolving.{Catches}
 use Rattle.ja_kinds.proofs.Hands.{hands_none}
 use Rattle.ja_kinds.proofs.solve.raise_handler.Goals as goal
 

@@ -2,7 +2,7 @@ use Rattle.std.proofs.Common.{ℕ, List, get_or, take, subst}
 use Rattle.std.proofs.lemmas.List.{get_or_default, take_all}
 use Rattle.ja_code.specs.declared.handler.RawHandler.{RawHandler}
 use Rattle.ja_kinds.specs.Solution.{HandledAt}
-use Rattle.ja_kinds.specs.Solving.{Hands}
+use Rattle.ja_kinds.specs.InnerSolving.{Hands}
 use Rattle.ja_kinds.proofs.Hands.{hands_none, hands_row}
 use Rattle.ja_kinds.proofs.solve.raise_handlers.Goals as goal
 

@@ -1,6 +1,6 @@
 use Rattle.std.proofs.Common.{ℕ, take}
 use Rattle.ja_kinds.specs.Solution.{HandledAt}
-use Rattle.ja_kinds.specs.Solving.{Hands}
+use Rattle.ja_kinds.specs.InnerSolving.{Hands}
 use Rattle.ja_kinds.proofs.solve.raise_handlers.Given as goal
 
 -- the state was handed to the handlers so far

@@ -3,7 +3,7 @@ use Rattle.std.proofs.lemmas.List.{length-replicate}
 use Rattle.ja_kinds.specs.declared.state.State.{State}
 use Rattle.ja_kinds.specs.declared.state.State.TheVariants.{Unreached}
 use Rattle.ja_kinds.specs.Solution.{entry_state}
-use Rattle.ja_kinds.specs.Solving.{AreWide, Hands, AreOnTheWay}
+use Rattle.ja_kinds.specs.InnerSolving.{AreWide, Hands, AreOnTheWay}
 use Rattle.ja_kinds.proofs.Effects.{if_ok}
 use Rattle.ja_kinds.proofs.Visits.{unreached_wide, entered}
 use Rattle.ja_kinds.proofs.sweep.enter.Goals as goal

@@ -2,7 +2,7 @@ use Rattle.std.proofs.Common.{◌≡◌, ◌+◌, false, length}
 use Rattle.ja_code.specs.declared.instr.RawInstr.{RawInstr}
 use Rattle.ja_kinds.specs.Effect.{IsOneOf}
 use Rattle.ja_kinds.specs.Solution.{IsClosed}
-use Rattle.ja_kinds.specs.Solving.{state_at, room, AreOnTheWay}
+use Rattle.ja_kinds.specs.InnerSolving.{state_at, room, AreOnTheWay}
 use Rattle.ja_kinds.proofs.Visits.{due}
 use Rattle.ja_kinds.proofs.sweep.settle.Given as goal
 

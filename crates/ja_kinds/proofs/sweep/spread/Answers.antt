@@ -4,7 +4,7 @@ use Rattle.ja_kinds.specs.declared.state.State.{State}
 use Rattle.ja_code.specs.Behaviour.{behaviour_at}
 use Rattle.ja_kinds.specs.Effect.{Does, LeadsTo}
 use Rattle.ja_kinds.specs.Solution.{thrown, HandledAt}
-use Rattle.ja_kinds.specs.Solving.{state_at, IsWide, Hands}
+use Rattle.ja_kinds.specs.InnerSolving.{state_at, IsWide, Hands}
 use Rattle.ja_kinds.proofs.Hands.{wide_at}
 use Rattle.ja_kinds.proofs.Monotone.{after_wide, thrown_wide}
 use Rattle.ja_kinds.proofs.Visits.{deed_law, idle_opcode, idle_found, does_found, spreads_nothing, spreads_both, spreads_alone}

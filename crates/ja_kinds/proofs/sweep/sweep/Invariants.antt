@@ -1,5 +1,5 @@
 use Rattle.std.proofs.Common.{take}
-use Rattle.ja_kinds.specs.Solving.{Sweeps}
+use Rattle.ja_kinds.specs.InnerSolving.{Sweeps}
 use Rattle.ja_kinds.proofs.sweep.sweep.Given as goal
 
 -- the instructions so far were visited

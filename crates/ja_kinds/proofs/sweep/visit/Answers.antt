@@ -1,6 +1,6 @@
 use Rattle.std.proofs.Common.{ℕ, Bool, false, set}
 use Rattle.std.proofs.lemmas.List.{get_or_past}
-use Rattle.ja_kinds.specs.Solving.{Spreads, Visits}
+use Rattle.ja_kinds.specs.InnerSolving.{Spreads, Visits}
 use Rattle.ja_kinds.proofs.Effects.{if_ok}
 use Rattle.ja_kinds.proofs.Visits.{visits_nothing, visits_spread}
 use Rattle.ja_kinds.proofs.sweep.visit.Goals as goal

@@ -1,6 +1,6 @@
 use Rattle.std.proofs.Common.{◌≡◌, ◌++◌, ℕ, List, take}
 use Rattle.ja_base.specs.Index.{numbers_at}
-use Rattle.ja_lib.specs.Index.{place_for_each}
+use Rattle.ja_lib.specs.InnerIndex.{place_for_each}
 use Rattle.ja_lib.proofs.index.note_row.Given as goal
 
 abbrev pub invariant-loop-listed : goal.invariant-loop-listed

@@ -1,6 +1,6 @@
 use Rattle.std.proofs.Common.{◌≡◌, ℕ, List, take}
 use Rattle.ja_base.specs.Index.{numbers_at}
-use Rattle.ja_lib.specs.Index.{places_from}
+use Rattle.ja_lib.specs.InnerIndex.{places_from}
 use Rattle.ja_lib.proofs.index.places_by_class.Given as goal
 
 abbrev pub invariant-loop-place : goal.invariant-loop-place

@@ -2,7 +2,7 @@ use Rattle.std.proofs.Common.{◌≡◌, List, Some, drop, length}
 use Rattle.toml.specs.Data.{Members, as_table}
 use Rattle.toml.specs.View.{items_view}
 use Rattle.ja_lib.specs.File.{read_items, SpellAll}
-use Rattle.ja_lib.specs.Reading.{AreTables}
+use Rattle.ja_lib.specs.InnerReading.{AreTables}
 use Rattle.ja_lib.proofs.spelled.read_all.Given as goal
 
 -- the tables so far spell the things so far, and with those behind them they are the array's tables

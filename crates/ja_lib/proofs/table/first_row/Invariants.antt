@@ -1,5 +1,5 @@
 use Rattle.std.proofs.Common.{◌≡◌, drop}
-use Rattle.ja_lib.specs.Index.{first_at}
+use Rattle.ja_lib.specs.InnerIndex.{first_at}
 use Rattle.ja_lib.proofs.table.first_row.Given as goal
 
 -- the places so far say nothing

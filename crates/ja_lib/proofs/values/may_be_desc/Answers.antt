@@ -2,7 +2,7 @@ use Rattle.std.proofs.Common.{Some, subst}
 use Rattle.std.proofs.lemmas.Result.{err_from_is_err_and}
 use Rattle.toml.specs.View.{view}
 use Rattle.ja_lib.specs.File.{IsDesc, MayBeDesc}
-use Rattle.ja_lib.specs.Reading.{seen_of}
+use Rattle.ja_lib.specs.InnerReading.{seen_of}
 use Rattle.ja_lib.proofs.Reading.{finds_without, desc_there}
 use Rattle.ja_lib.proofs.values.may_be_desc.Goals as goal
 

@@ -1,7 +1,7 @@
 use Rattle.std.proofs.Common.{◌≡◌, ◌+◌, ◌<◌, ◌≤◌, [], length, Ok, Err, rules, arith, ap, sym, ◌∙◌, subst, length-drop}
 use Rattle.ja_listing.specs.Listed.{lines_of, AreNumbered}
 use Rattle.ja_listing.specs.Notation.{items_in}
-use Rattle.ja_listing.specs.Reading.{read}
+use Rattle.ja_listing.specs.InnerReading.{read}
 use Rattle.ja_listing.proofs.AllItems.{read_step, read_stop, read_end}
 use Rattle.ja_listing.proofs.read.read_all.Goals as goal
 

@@ -1,8 +1,8 @@
 use Rattle.std.proofs.Common.{◌≡◌, ◌+◌, ◌≤◌, List, [], length}
 use Rattle.ja_listing.specs.declared.item.Line.{Line}
 use Rattle.ja_listing.specs.Notation.{items_in}
-use Rattle.ja_listing.specs.Reading.{read}
-use Rattle.ja_listing.specs.Scope.{IsKept}
+use Rattle.ja_listing.specs.InnerReading.{read}
+use Rattle.ja_listing.specs.InnerScope.{IsKept}
 use Rattle.ja_listing.proofs.read.read_all.Given as goal
 
 -- the items so far are kept, and behind them the rest reads as all do

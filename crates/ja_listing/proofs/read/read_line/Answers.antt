@@ -1,6 +1,6 @@
 use Rattle.std.proofs.Common.{◌∷◌, refl, subst}
 use Rattle.ja_listing.specs.declared.item.Line.{Line}
-use Rattle.ja_listing.specs.Scope.{IsScope}
+use Rattle.ja_listing.specs.InnerScope.{IsScope}
 use Rattle.ja_listing.proofs.Kept.{class_kept}
 use Rattle.ja_listing.proofs.read.read_line.Goals as goal
 

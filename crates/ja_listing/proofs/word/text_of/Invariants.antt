@@ -1,6 +1,6 @@
 use Rattle.std.proofs.Common.{◌≡◌, length}
 use Rattle.ja_listing.specs.Word.{closed}
-use Rattle.ja_listing.specs.Reading.{with_front}
+use Rattle.ja_listing.specs.InnerReading.{with_front}
 use Rattle.ja_listing.proofs.word.text_of.Given as goal
 
 -- the bytes so far and those of the rest are those of the part

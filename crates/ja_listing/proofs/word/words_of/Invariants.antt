@@ -1,7 +1,7 @@
 use Rattle.std.proofs.Common.{◌≡◌, length}
 use Rattle.ja_listing.specs.Text.{is_blank, parted}
 use Rattle.ja_listing.specs.Word.{all_words}
-use Rattle.ja_listing.specs.Reading.{with_front}
+use Rattle.ja_listing.specs.InnerReading.{with_front}
 use Rattle.ja_listing.proofs.word.words_of.Given as goal
 
 -- the words so far and those of the rest are those of the item

@@ -2,7 +2,7 @@ use Rattle.std.proofs.Common.{zero, ap, ◌∙◌}
 use Rattle.std.proofs.Crossing.{crosses, frees}
 use denote.Param.Send.{sendable}
 use Rattle.rayon.proofs.ToStd.{slice-AllZip}
-use Rattle.ja_lower.specs.Answers.{IsAnswerAt}
+use Rattle.ja_lower.specs.InnerAnswers.{IsAnswerAt}
 use Rattle.ja_lower.proofs.Answered.{answers-from, each-place}
 use Rattle.ja_lower.proofs.Sent.{hier-sync, class-sync, table-sync, answer-send}
 use Rattle.ja_lower.proofs.answer.answers_of.Goals as goal

@@ -1,6 +1,6 @@
 use Rattle.std.proofs.Common.{zero, length, sym, ap, ◌∙◌, subst, arith}
 use Rattle.std.specs.Vec.Iter.{into_iter_items}
-use Rattle.ja_lower.specs.Answers.{AnswersFrom}
+use Rattle.ja_lower.specs.InnerAnswers.{AnswersFrom}
 use Rattle.ja_lower.proofs.Answered.{next-answer, no-answer-left, nothing-left, under-way}
 use Rattle.ja_lower.proofs.UpTo.{nothing-yet}
 use Rattle.ja_lower.proofs.methods.code_of.Goals as goal

@@ -1,6 +1,6 @@
 use Rattle.std.proofs.Common.{◌≡◌, length}
 use Rattle.std.specs.Vec.Iter.{into_iter_items, into_iter_len}
-use Rattle.ja_lower.specs.Answers.{AreUnderWay}
+use Rattle.ja_lower.specs.InnerAnswers.{AreUnderWay}
 use Rattle.ja_lower.proofs.methods.code_of.Given as goal
 
 abbrev pub invariant-loop-answer : goal.invariant-loop-answer

@@ -2,7 +2,7 @@ use Rattle.std.proofs.Common.{◌≡◌, ℕ, suc, ◌+◌, ◌<◌, length, ref
 use Rattle.std.specs.Prelude.{Some, slice_get}
 use Rattle.std.proofs.lemmas.Option.{slice_get_read}
 use Rattle.ja_class.specs.Meaning.{ClassSpelled}
-use Rattle.ja_lower.specs.Places.{PlacesUpTo, next_class}
+use Rattle.ja_lower.specs.InnerPlaces.{PlacesUpTo, next_class}
 use Rattle.ja_lower.proofs.Answered.{place-more}
 use Rattle.ja_lower.proofs.UpTo.{number-fits}
 use Rattle.ja_lower.proofs.place.add_places.Goals as goal

@@ -1,4 +1,4 @@
-use Rattle.ja_lower.specs.Places.{PlacesUpTo}
+use Rattle.ja_lower.specs.InnerPlaces.{PlacesUpTo}
 use Rattle.ja_lower.proofs.place.add_places.Given as goal
 
 abbrev pub invariant-loop-m : goal.invariant-loop-m

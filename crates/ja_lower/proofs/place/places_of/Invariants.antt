@@ -1,5 +1,5 @@
 use Rattle.std.proofs.Common.{zero}
-use Rattle.ja_lower.specs.Places.{PlacesUpTo}
+use Rattle.ja_lower.specs.InnerPlaces.{PlacesUpTo}
 use Rattle.ja_lower.proofs.place.places_of.Given as goal
 
 abbrev pub invariant-loop-c : goal.invariant-loop-c

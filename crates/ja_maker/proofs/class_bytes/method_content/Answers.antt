@@ -1,6 +1,6 @@
-use Rattle.ja_assembly.specs.Labels.{places}
+use Rattle.ja_assembly.specs.InnerLabels.{places}
 use Rattle.ja_assembly.specs.Members.{instructions_in, ranges_in}
-use Rattle.ja_maker.specs.Writing.{pool_in}
+use Rattle.ja_maker.specs.InnerWriting.{pool_in}
 use Rattle.ja_maker.proofs.Chains.{content_is}
 use Rattle.ja_maker.proofs.class_bytes.method_content.Goals as goal
 

@@ -1,5 +1,5 @@
 use Rattle.ja_assembly.specs.Members.{instructions_in, ranges_in}
-use Rattle.ja_maker.specs.Writing.{pool_in}
+use Rattle.ja_maker.specs.InnerWriting.{pool_in}
 use Rattle.ja_maker.proofs.Chains.{attributes_are}
 use Rattle.ja_maker.proofs.class_bytes.put_attributes.Goals as goal
 

@@ -4,7 +4,7 @@ use Rattle.std.proofs.lemmas.List.{append-nil}
 use Rattle.ja_class.specs.ClassFile.{member_bytes}
 use Rattle.ja_assembly.specs.Members.{Member, expanded, fields}
 use Rattle.ja_assembly.specs.Assembled.{field_info}
-use Rattle.ja_maker.specs.Writing.{pool_in}
+use Rattle.ja_maker.specs.InnerWriting.{pool_in}
 use Rattle.ja_maker.proofs.class_bytes.put_fields.Goals as goal
 
 pub returns : goal.returns

@@ -1,7 +1,7 @@
 use Rattle.ja_attributes.specs.Attribute.{attributes_bytes}
 use Rattle.ja_assembly.specs.Members.{instructions_in, ranges_in}
 use Rattle.ja_assembly.specs.Assembled.{u2, text_index, attributes_of}
-use Rattle.ja_maker.specs.Writing.{pool_in}
+use Rattle.ja_maker.specs.InnerWriting.{pool_in}
 use Rattle.ja_maker.proofs.Chains.{front_then}
 use Rattle.ja_maker.proofs.class_bytes.put_method.Goals as goal
 

@@ -2,9 +2,9 @@ use Rattle.std.proofs.Common.{◌≡◌, ◌+◌, [], ◌∷◌, ◌++◌, refl,
 use Rattle.std.proofs.lemmas.List.{append-nil}
 use Rattle.ja_code.specs.Opcode.{form_at}
 use Rattle.ja_assembly.specs.Members.{size_of_opcode, instructions_in}
-use Rattle.ja_assembly.specs.Labels.{places}
+use Rattle.ja_assembly.specs.InnerLabels.{places}
 use Rattle.ja_assembly.specs.Assembled.{operand_bytes, instruction_bytes}
-use Rattle.ja_maker.specs.Writing.{pool_in}
+use Rattle.ja_maker.specs.InnerWriting.{pool_in}
 use Rattle.ja_maker.proofs.code_bytes.put_instructions.Goals as goal
 
 pub returns-in-Method : goal.returns-in-Method

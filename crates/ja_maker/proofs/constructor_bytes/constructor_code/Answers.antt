@@ -1,6 +1,6 @@
-use Rattle.ja_assembly.specs.Labels.{places}
+use Rattle.ja_assembly.specs.InnerLabels.{places}
 use Rattle.ja_assembly.specs.Members.{instructions_in}
-use Rattle.ja_maker.specs.Writing.{pool_in}
+use Rattle.ja_maker.specs.InnerWriting.{pool_in}
 use Rattle.ja_maker.proofs.Constructors.{constructor_is}
 use Rattle.ja_maker.proofs.constructor_bytes.constructor_code.Goals as goal
 

@@ -1,8 +1,8 @@
 use Rattle.std.proofs.Common.{◌++◌, ◌∙◌}
-use Rattle.ja_assembly.specs.Labels.{places}
+use Rattle.ja_assembly.specs.InnerLabels.{places}
 use Rattle.ja_assembly.specs.Members.{instructions_in, ranges_in}
-use Rattle.ja_maker.specs.Writing.{pool_in}
-use Rattle.ja_maker.specs.Constructor.{initializer_code, initializer_frame}
+use Rattle.ja_maker.specs.InnerWriting.{pool_in}
+use Rattle.ja_maker.specs.InnerConstructor.{initializer_code, initializer_frame}
 use Rattle.ja_maker.proofs.Chains.{content_is}
 use Rattle.ja_maker.proofs.Constructors.{constructor_labels}
 use Rattle.ja_maker.proofs.constructor_bytes.constructor_content.Goals as goal

@@ -1,4 +1,4 @@
-use Rattle.ja_maker.specs.Writing.{pool_in}
+use Rattle.ja_maker.specs.InnerWriting.{pool_in}
 use Rattle.ja_maker.proofs.Constructors.{constructor_whole}
 use Rattle.ja_maker.proofs.constructor_bytes.put_constructor.Goals as goal
 

@@ -4,8 +4,8 @@ use Rattle.std.proofs.lemmas.List.{append-nil}
 use Rattle.ja_class.specs.ClassFile.{member_bytes}
 use Rattle.ja_assembly.specs.Members.{Body, expanded, methods, instructions_in, ranges_in}
 use Rattle.ja_assembly.specs.Assembled.{method_info}
-use Rattle.ja_maker.specs.Writing.{pool_in}
-use Rattle.ja_maker.specs.Constructor.{constructor_body}
+use Rattle.ja_maker.specs.InnerWriting.{pool_in}
+use Rattle.ja_maker.specs.InnerConstructor.{constructor_body}
 use Rattle.ja_maker.proofs.constructor_bytes.put_methods.Goals as goal
 
 pub returns : goal.returns

@@ -3,7 +3,7 @@ use Rattle.std.specs.List.{flat_map}
 use Rattle.ja_class.specs.ClassFile.{member_bytes}
 use Rattle.ja_assembly.specs.Members.{expanded, methods}
 use Rattle.ja_assembly.specs.Assembled.{method_info}
-use Rattle.ja_maker.specs.Writing.{pool_in}
+use Rattle.ja_maker.specs.InnerWriting.{pool_in}
 use Rattle.ja_maker.proofs.constructor_bytes.put_methods.Given as goal
 
 -- those so far and those of the rest are all

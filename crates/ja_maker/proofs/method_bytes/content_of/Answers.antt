@@ -1,8 +1,8 @@
 use Rattle.std.proofs.Common.{[], length}
-use Rattle.ja_assembly.specs.Labels.{places}
+use Rattle.ja_assembly.specs.InnerLabels.{places}
 use Rattle.ja_assembly.specs.Assembled.{u2, u4}
 use Rattle.ja_assembly.specs.Members.{ranges_in}
-use Rattle.ja_maker.specs.Writing.{pool_in, rows_in}
+use Rattle.ja_maker.specs.InnerWriting.{pool_in, rows_in}
 use Rattle.ja_maker.proofs.Chains.{seven}
 use Rattle.ja_maker.proofs.method_bytes.content_of.Goals as goal
 

@@ -1,10 +1,10 @@
 use Rattle.std.proofs.Common.{◌≡◌, [], ◌++◌, refl, sym, ap, ◌∙◌, append_assoc}
 use Rattle.std.proofs.lemmas.List.{append-nil}
 use Rattle.ja_attributes.specs.Attribute.{handler_bytes}
-use Rattle.ja_assembly.specs.Labels.{places}
+use Rattle.ja_assembly.specs.InnerLabels.{places}
 use Rattle.ja_assembly.specs.Assembled.{row_of}
 use Rattle.ja_assembly.specs.Members.{ranges_in}
-use Rattle.ja_maker.specs.Writing.{pool_in, rows_in}
+use Rattle.ja_maker.specs.InnerWriting.{pool_in, rows_in}
 use Rattle.ja_maker.proofs.method_bytes.put_rows.Goals as goal
 
 pub returns-in-Method : goal.returns-in-Method

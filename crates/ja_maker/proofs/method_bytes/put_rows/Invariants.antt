@@ -1,7 +1,7 @@
 use Rattle.std.proofs.Common.{◌≡◌, ℕ, List, ◌++◌, length}
-use Rattle.ja_assembly.specs.Labels.{places}
+use Rattle.ja_assembly.specs.InnerLabels.{places}
 use Rattle.ja_assembly.specs.Members.{ranges_in}
-use Rattle.ja_maker.specs.Writing.{pool_in, rows_in}
+use Rattle.ja_maker.specs.InnerWriting.{pool_in, rows_in}
 use Rattle.ja_maker.proofs.method_bytes.put_rows.Given as goal
 
 -- what is written and what the rest asks for are what all items ask for

@@ -2,7 +2,7 @@ use Rattle.std.proofs.Common.{◌≡◌, ◌-◌, ◌≤◌, ◌++◌, length, t
 use Rattle.std.specs.List.{flat_map}
 use Rattle.ja_pool.specs.Entry.{spelling}
 use Rattle.ja_assembly.specs.Assembled.{string_entry}
-use Rattle.ja_maker.specs.Writing.{pool_in}
+use Rattle.ja_maker.specs.InnerWriting.{pool_in}
 use Rattle.ja_maker.proofs.pool_lists.put_strings.Given as goal
 
 -- the entries so far are written

@@ -1,7 +1,7 @@
 use Rattle.std.proofs.Common.{◌∙◌, ap, List, ℕ, ◌++◌}
 use Rattle.ja_class.specs.ClassFile.{spelling}
 use Rattle.ja_assembly.specs.Assembled.{Pool, file_in}
-use Rattle.ja_maker.specs.Writing.{pool_in}
+use Rattle.ja_maker.specs.InnerWriting.{pool_in}
 use Rattle.ja_maker.proofs.Wholes.{few_known, pool_known}
 use Rattle.ja_maker.proofs.write.bytes_of.Goals as goal
 

@@ -1,4 +1,4 @@
-use Rattle.ja_maker.specs.Writing.{pool_in}
+use Rattle.ja_maker.specs.InnerWriting.{pool_in}
 use Rattle.ja_maker.proofs.Wholes.{count_is}
 use Rattle.ja_maker.proofs.write.count_entries.Goals as goal
 

@@ -1,4 +1,4 @@
-use Rattle.ja_maker.specs.Writing.{pool_in}
+use Rattle.ja_maker.specs.InnerWriting.{pool_in}
 use Rattle.ja_maker.proofs.Wholes.{whole_is}
 use Rattle.ja_maker.proofs.write.put_class.Goals as goal
 

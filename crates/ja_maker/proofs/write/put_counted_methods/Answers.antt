@@ -1,7 +1,7 @@
 use Rattle.std.specs.List.{flat_map}
 use Rattle.ja_assembly.specs.Members.{expanded, methods}
 use Rattle.ja_assembly.specs.Assembled.{method_info}
-use Rattle.ja_maker.specs.Writing.{pool_in}
+use Rattle.ja_maker.specs.InnerWriting.{pool_in}
 use Rattle.ja_maker.proofs.Wholes.{members_are}
 use Rattle.ja_maker.proofs.write.put_counted_methods.Goals as goal
 

@@ -1,6 +1,6 @@
 use Rattle.std.proofs.Common.{◌≡◌, map, drop}
 use Rattle.ja_operations.specs.Shuffles.{first_move}
-use Rattle.ja_operations.specs.Moves.{move_seen}
+use Rattle.ja_operations.specs.InnerMoves.{move_seen}
 use Rattle.ja_operations.proofs.shuffle.first_move.Given as goal
 
 -- the first possible one of what is left is that of all

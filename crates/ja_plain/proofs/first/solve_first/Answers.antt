@@ -2,7 +2,7 @@ use Rattle.std.proofs.Common.{Bool, List, slice_index_or}
 use Rattle.ja_plain.specs.Verdict.{AreVerdicts}
 use Rattle.ja_class.specs.declared.first.FirstInstr.{FirstInstr}
 use Rattle.ja_class.specs.declared.first.FirstOp.TheVariants.{Load}
-use Rattle.ja_plain.specs.Pass.{top_of}
+use Rattle.ja_plain.specs.InnerPass.{top_of}
 use Rattle.ja_plain.proofs.Passing.{begins, flagged-sink, flagged-other, goes-on-from}
 use Rattle.ja_plain.proofs.Clean.{clean}
 use Rattle.ja_plain.proofs.Solution.{ends, verdicts}

@@ -1,5 +1,5 @@
 use Rattle.std.proofs.Common.{[], drop, false, replicate}
-use Rattle.ja_plain.specs.Pass.{flags_from}
+use Rattle.ja_plain.specs.InnerPass.{flags_from}
 use Rattle.ja_plain.proofs.Passing.{Passing}
 use Rattle.ja_plain.proofs.first.solve_first.Given as goal
 

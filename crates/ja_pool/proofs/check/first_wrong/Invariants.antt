@@ -1,6 +1,6 @@
 use Rattle.std.proofs.Common.{◌≡◌, drop}
 use Rattle.std.specs.List.{flat_map}
-use Rattle.ja_pool.specs.Slot.{slot_fields, wrong_place}
+use Rattle.ja_pool.specs.InnerSlot.{slot_fields, wrong_place}
 use Rattle.ja_pool.proofs.check.first_wrong.Given as goal
 
 abbrev pub invariant-loop-slot : goal.invariant-loop-slot

@@ -1,5 +1,5 @@
 use Rattle.std.proofs.Common.{◌≡◌, ◌≤◌, ◌-◌, length}
-use Rattle.ja_pool.specs.Shape.{ReadsEntries}
+use Rattle.ja_pool.specs.InnerShape.{ReadsEntries}
 use Rattle.ja_pool.proofs.entry.entries.Given as goal
 
 abbrev pub invariant-loop-slots : goal.invariant-loop-slots

@@ -2,8 +2,8 @@ use Rattle.std.proofs.Common.{List, map, sym, ap, ◌∙◌, arith}
 use Rattle.std.proofs.lemmas.List.{take_all}
 use Rattle.ja_pool.specs.declared.slot.Slot.{Slot}
 use Rattle.ja_pool.specs.Table.{dims_in}
-use Rattle.ja_pool.specs.Slot.{seen}
-use Rattle.ja_pool.specs.Kept.{table_in}
+use Rattle.ja_pool.specs.InnerSlot.{seen}
+use Rattle.ja_pool.specs.InnerKept.{table_in}
 use Rattle.ja_pool.proofs.Tables.{map-map}
 use Rattle.ja_pool.proofs.look.all_dims.Goals as goal
 

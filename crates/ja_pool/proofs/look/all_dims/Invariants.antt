@@ -1,7 +1,7 @@
 use Rattle.std.proofs.Common.{◌≡◌, map, take}
 use Rattle.ja_pool.specs.Table.{dims_in}
-use Rattle.ja_pool.specs.Kept.{table_in}
-use Rattle.ja_pool.specs.Slot.{seen}
+use Rattle.ja_pool.specs.InnerKept.{table_in}
+use Rattle.ja_pool.specs.InnerSlot.{seen}
 use Rattle.ja_pool.proofs.look.all_dims.Given as goal
 
 abbrev pub invariant-loop-slot : goal.invariant-loop-slot

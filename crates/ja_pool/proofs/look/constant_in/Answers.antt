@@ -2,7 +2,7 @@ use Rattle.std.proofs.Common.{ℕ, sym, ap, subst, ◌∙◌}
 use Rattle.std.specs.Prelude.{IsTrue}
 use Rattle.ja_pool.specs.declared.slot.Slot.{Slot}
 use Rattle.ja_pool.specs.Table.{is_constant_tag}
-use Rattle.ja_pool.specs.Slot.{form_tag}
+use Rattle.ja_pool.specs.InnerSlot.{form_tag}
 use Rattle.ja_pool.specs.Constant.{IsConstant}
 use Rattle.ja_pool.proofs.Tables.{tag_is, constant_at}
 use Rattle.ja_pool.proofs.look.constant_in.Goals as goal

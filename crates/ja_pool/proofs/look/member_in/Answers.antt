@@ -1,8 +1,8 @@
 use Rattle.std.proofs.Common.{◌≡◌, sym, ap, ◌∙◌}
 use Rattle.ja_pool.specs.declared.slot.Slot.{Slot}
 use Rattle.ja_pool.specs.Table.{first_at, second_at, text_at, class_name_at}
-use Rattle.ja_pool.specs.Slot.{form_first, form_second}
-use Rattle.ja_pool.specs.Kept.{table_in}
+use Rattle.ja_pool.specs.InnerSlot.{form_first, form_second}
+use Rattle.ja_pool.specs.InnerKept.{table_in}
 use Rattle.ja_pool.proofs.Tables.{text_is, first_is, second_is}
 use Rattle.ja_pool.proofs.look.member_in.Goals as goal
 

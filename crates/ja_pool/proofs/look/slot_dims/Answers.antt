@@ -1,6 +1,6 @@
 use Rattle.std.proofs.Common.{ℕ, get_or, sym, ap, ◌∙◌}
 use Rattle.ja_pool.specs.Table.{entry_text, brackets_of}
-use Rattle.ja_pool.specs.Slot.{nothing, seen}
+use Rattle.ja_pool.specs.InnerSlot.{nothing, seen}
 use Rattle.ja_pool.proofs.Tables.{class_dims}
 use Rattle.ja_pool.proofs.look.slot_dims.Goals as goal
 

@@ -2,7 +2,7 @@ use Rattle.std.proofs.Common.{◌≡◌, ℕ, ◌+◌, ◌-◌, ◌<◌, ◌^◌
 use Rattle.std.specs.List.{All, flat_map}
 use Rattle.ja_pool.specs.declared.slot.Slot.{Slot}
 use Rattle.ja_pool.specs.Entry.{spelling}
-use Rattle.ja_pool.specs.Slot.{slot_tags}
+use Rattle.ja_pool.specs.InnerSlot.{slot_tags}
 use Rattle.ja_pool.proofs.ReadParts.{places_ok, inside_ok, tagged_ok, bytes_are, pool_read, index_wrong}
 use Rattle.ja_pool.proofs.read.pool_behind.Goals as goal
 use Rattle.ja_pool.proofs.read.pool_behind.Goals.{After-split_at, After-first_wrong}

@@ -1,7 +1,7 @@
 use Rattle.std.proofs.Common.{◌≤◌, arith}
 use Rattle.std.proofs.lemmas.Result.{IfErr-weaker}
 use Rattle.ja_pool.specs.Pool.{IsFirstFault}
-use Rattle.ja_pool.specs.Shape.{OrMemory, IsFaultBehind}
+use Rattle.ja_pool.specs.InnerShape.{OrMemory, IsFaultBehind}
 use Rattle.ja_pool.proofs.ReadParts.{or_weaker, fault_first}
 use Rattle.ja_pool.proofs.read.pool_from.Goals as goal
 

@@ -1,5 +1,5 @@
 use Rattle.std.proofs.Common.{◌≡◌, ℕ, ◌<◌, ◌≤◌, [], get_or}
-use Rattle.ja_supertypes.specs.Rows.{stepped}
+use Rattle.ja_supertypes.specs.InnerRows.{stepped}
 use Rattle.ja_supertypes.proofs.closure.join_through.Given as goal
 
 abbrev pub invariant-loop-i : goal.invariant-loop-i

@@ -1,5 +1,5 @@
 use Rattle.std.proofs.Common.{◌≡◌, ℕ, ◌<◌, [], length, get_or}
-use Rattle.ja_supertypes.specs.Rows.{IsSetOf}
+use Rattle.ja_supertypes.specs.InnerRows.{IsSetOf}
 use Rattle.ja_supertypes.proofs.direct.sets_of.Given as goal
 
 abbrev pub invariant-loop-places : goal.invariant-loop-places

@@ -1,5 +1,5 @@
 use Rattle.std.proofs.Common.{◌≡◌, false, take}
-use Rattle.ja_supertypes.specs.Foreign.{is_raised}
+use Rattle.ja_supertypes.specs.InnerForeign.{is_raised}
 use Rattle.ja_supertypes.proofs.foreign.is_raised.Given as goal
 
 abbrev pub invariant-loop-above : goal.invariant-loop-above

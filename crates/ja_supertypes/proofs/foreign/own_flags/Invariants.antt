@@ -1,5 +1,5 @@
 use Rattle.std.proofs.Common.{◌≡◌, map, take}
-use Rattle.ja_supertypes.specs.Foreign.{names_foreign}
+use Rattle.ja_supertypes.specs.InnerForeign.{names_foreign}
 use Rattle.ja_supertypes.proofs.foreign.own_flags.Given as goal
 
 abbrev pub invariant-loop-head : goal.invariant-loop-head

@@ -1,5 +1,5 @@
 use Rattle.std.proofs.Common.{take}
-use Rattle.ja_supertypes.specs.Foreign.{AreRaised}
+use Rattle.ja_supertypes.specs.InnerForeign.{AreRaised}
 use Rattle.ja_supertypes.proofs.foreign.raise.Given as goal
 
 abbrev pub invariant-loop-class : goal.invariant-loop-class

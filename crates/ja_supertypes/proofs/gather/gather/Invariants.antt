@@ -1,5 +1,5 @@
 use Rattle.std.proofs.Common.{take}
-use Rattle.ja_supertypes.specs.Rows.{AreGathered}
+use Rattle.ja_supertypes.specs.InnerRows.{AreGathered}
 use Rattle.ja_supertypes.proofs.gather.gather.Given as goal
 
 abbrev pub invariant-loop-class : goal.invariant-loop-class

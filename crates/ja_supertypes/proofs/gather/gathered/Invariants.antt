@@ -1,5 +1,5 @@
 use Rattle.std.proofs.Common.{take}
-use Rattle.ja_supertypes.specs.Rows.{IsGathered}
+use Rattle.ja_supertypes.specs.InnerRows.{IsGathered}
 use Rattle.ja_supertypes.proofs.gather.gathered.Given as goal
 
 abbrev pub invariant-loop-above : goal.invariant-loop-above

@@ -1,5 +1,5 @@
 use Rattle.std.proofs.Common.{take}
-use Rattle.ja_supertypes.specs.Rows.{AreMembers}
+use Rattle.ja_supertypes.specs.InnerRows.{AreMembers}
 use Rattle.ja_supertypes.proofs.gather.members.Given as goal
 
 abbrev pub invariant-loop-set : goal.invariant-loop-set

@@ -1,10 +1,10 @@
 use Rattle.std.proofs.Common.{◌≡◌, ◌<◌, ◌++◌, [], ℕ, List, sym, ◌∙◌, subst, arith}
 use Rattle.std.specs.Prelude.{IfSome}
 use Rattle.std.proofs.lemmas.Result.{IfOk-weaker}
-use Rattle.ja_supertypes.specs.Index.{IsTop}
+use Rattle.ja_supertypes.specs.InnerIndex.{IsTop}
 use Rattle.ja_supertypes.specs.LibraryTypes.{AreLibraryTypes}
 use Rattle.ja_supertypes.specs.Supertypes.{superclass_of}
-use Rattle.ja_supertypes.specs.Types.{other_than_object}
+use Rattle.ja_supertypes.specs.InnerTypes.{other_than_object}
 use Rattle.ja_supertypes.proofs.Places.{superclass-read}
 use Rattle.ja_supertypes.proofs.Read.{superclass-inside, top-read, top-inside}
 use Rattle.ja_supertypes.proofs.TypeWays.{all-types}

@@ -1,4 +1,4 @@
-use Rattle.ja_supertypes.specs.Types.{AreNotedBelow}
+use Rattle.ja_supertypes.specs.InnerTypes.{AreNotedBelow}
 use Rattle.ja_supertypes.proofs.library.library_types.Given as goal
 
 abbrev pub invariant-loop-count : goal.invariant-loop-count

@@ -1,6 +1,6 @@
 use Rattle.std.proofs.Common.{◌≡◌, ℕ, inl, inr, [], length, get_or, subst, sym, arith}
 use Rattle.std.proofs.lemmas.Bool.{cases_lt}
-use Rattle.ja_supertypes.specs.Types.{AreNoted}
+use Rattle.ja_supertypes.specs.InnerTypes.{AreNoted}
 use Rattle.ja_supertypes.proofs.library.note_level.Goals as goal
 
 pub loop-class-preserved : goal.loop-class-preserved

@@ -1,5 +1,5 @@
 use Rattle.std.proofs.Common.{◌≡◌, ℕ, ◌<◌, [], length, get_or}
-use Rattle.ja_supertypes.specs.Types.{AreNoted}
+use Rattle.ja_supertypes.specs.InnerTypes.{AreNoted}
 use Rattle.ja_supertypes.proofs.library.note_level.Given as goal
 
 abbrev pub invariant-loop-class : goal.invariant-loop-class

@@ -2,7 +2,7 @@ use Rattle.std.proofs.Common.{◌≡◌, ◌<◌, ℕ, List, length, take, ap, �
 use Rattle.std.proofs.lemmas.List.{take_all}
 use Rattle.std.proofs.lemmas.Result.{IfOk-weaker}
 use Rattle.ja_supertypes.specs.LibraryTypes.{first_places}
-use Rattle.ja_supertypes.specs.Types.{spliced, AreOwnTypes}
+use Rattle.ja_supertypes.specs.InnerTypes.{spliced, AreOwnTypes}
 use Rattle.ja_supertypes.proofs.TypeWays.{spliced-more, own-types}
 use Rattle.ja_supertypes.proofs.library.own_types.Goals as goal
 

@@ -1,6 +1,6 @@
 use Rattle.std.proofs.Common.{◌≡◌, take}
 use Rattle.ja_supertypes.specs.LibraryTypes.{first_places}
-use Rattle.ja_supertypes.specs.Types.{spliced}
+use Rattle.ja_supertypes.specs.InnerTypes.{spliced}
 use Rattle.ja_supertypes.proofs.library.own_types.Given as goal
 
 abbrev pub invariant-loop-interface : goal.invariant-loop-interface

@@ -1,6 +1,6 @@
 use Rattle.std.proofs.Common.{List, ℕ, Bool, sym, ◌∙◌, subst}
-use Rattle.ja_supertypes.specs.Index.{Lists}
-use Rattle.ja_supertypes.specs.Rows.{ShowsAll}
+use Rattle.ja_supertypes.specs.InnerIndex.{Lists}
+use Rattle.ja_supertypes.specs.InnerRows.{ShowsAll}
 use Rattle.ja_supertypes.specs.Supertypes.{IsSupertype}
 use Rattle.ja_supertypes.proofs.make.above_of.Goals as goal
 

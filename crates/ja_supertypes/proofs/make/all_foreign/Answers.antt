@@ -2,8 +2,8 @@ use Rattle.std.proofs.Common.{◌≡◌, ℕ, ◌<◌, List, length, map, sym, a
 use Rattle.std.specs.Prelude.{All}
 use Rattle.std.proofs.lemmas.List.{length-map}
 use Rattle.std.proofs.lemmas.Result.{IfOk-weaker}
-use Rattle.ja_supertypes.specs.Foreign.{names_foreign, AreRaised}
-use Rattle.ja_supertypes.specs.Index.{ShowsForeign}
+use Rattle.ja_supertypes.specs.InnerForeign.{names_foreign, AreRaised}
+use Rattle.ja_supertypes.specs.InnerIndex.{ShowsForeign}
 use Rattle.ja_supertypes.proofs.ForeignWays.{shows-foreign}
 use Rattle.ja_supertypes.proofs.Places.{supers-inside}
 use Rattle.ja_supertypes.proofs.make.all_foreign.Goals as goal

@@ -2,8 +2,8 @@ use Rattle.std.proofs.Common.{◌≡◌, ℕ, ◌<◌, List, length, map, sym, a
 use Rattle.std.specs.Prelude.{All, filter_map}
 use Rattle.std.proofs.lemmas.Result.{IfOk-weaker}
 use Rattle.ja_ir.specs.declared.head.ClassHead.{ClassHead}
-use Rattle.ja_supertypes.specs.Index.{Shows, interface_places}
-use Rattle.ja_supertypes.specs.Rows.{AreSets, AreGathered}
+use Rattle.ja_supertypes.specs.InnerIndex.{Shows, interface_places}
+use Rattle.ja_supertypes.specs.InnerRows.{AreSets, AreGathered}
 use Rattle.ja_supertypes.specs.Supertypes.{place_of, IsSuperinterface}
 use Rattle.ja_supertypes.proofs.ListSteps.{sets-widths}
 use Rattle.ja_supertypes.proofs.Places.{interfaces-inside, supers-inside, shows-superinterfaces, length-interfaces}

@@ -1,6 +1,6 @@
 use Rattle.std.proofs.Common.{◌<◌, ℕ, List, Bool, length, sym, subst}
 use Rattle.std.specs.Prelude.{All}
-use Rattle.ja_supertypes.specs.Rows.{AreSets, ShowsDirect}
+use Rattle.ja_supertypes.specs.InnerRows.{AreSets, ShowsDirect}
 use Rattle.ja_supertypes.proofs.Places.{supertypes-inside, shows-direct}
 use Rattle.ja_supertypes.proofs.make.all_supertypes.Goals as goal
 

@@ -1,7 +1,7 @@
 use Rattle.std.proofs.Common.{ℕ, ◌<◌, List, [], length, get_or}
 use Rattle.std.proofs.lemmas.Result.{IfOk-weaker}
-use Rattle.ja_supertypes.specs.Index.{Lists}
-use Rattle.ja_supertypes.specs.Rows.{AreMembers}
+use Rattle.ja_supertypes.specs.InnerIndex.{Lists}
+use Rattle.ja_supertypes.specs.InnerRows.{AreMembers}
 use Rattle.ja_supertypes.specs.Supertypes.{IsDirect, IsSupertype}
 use Rattle.ja_supertypes.proofs.Places.{lists-supers, lists-fall}
 use Rattle.ja_supertypes.proofs.Ways.{rows-widths}

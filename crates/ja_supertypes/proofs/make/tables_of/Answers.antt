@@ -1,7 +1,7 @@
 use Rattle.std.proofs.Common.{List, Bool, sym, subst}
 use Rattle.ja_ir.specs.declared.head.ClassHead.{ClassHead}
-use Rattle.ja_supertypes.specs.Index.{IsIndexed, Shows}
-use Rattle.ja_supertypes.specs.Rows.{ShowsAll}
+use Rattle.ja_supertypes.specs.InnerIndex.{IsIndexed, Shows}
+use Rattle.ja_supertypes.specs.InnerRows.{ShowsAll}
 use Rattle.ja_supertypes.specs.Supertypes.{IsSuperclass, IsSuperinterface}
 use Rattle.ja_supertypes.proofs.make.tables_of.Goals as goal
 

@@ -1,7 +1,7 @@
 use Rattle.std.proofs.Common.{List, ℕ, Bool, ◌++◌, map, sym, ap, ◌∙◌, subst}
 use Rattle.std.specs.Prelude.{filter_map, option_to_list}
 use Rattle.ja_ir.specs.declared.head.ClassHead.{ClassHead}
-use Rattle.ja_supertypes.specs.Rows.{ShowsAll}
+use Rattle.ja_supertypes.specs.InnerRows.{ShowsAll}
 use Rattle.ja_supertypes.specs.Supertypes.{place_of, place_of_some}
 use Rattle.ja_supertypes.proofs.Places.{names-few}
 use Rattle.ja_supertypes.proofs.make.ways_of.Goals as goal

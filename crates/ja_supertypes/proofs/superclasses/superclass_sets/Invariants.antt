@@ -1,5 +1,5 @@
 use Rattle.std.proofs.Common.{◌≡◌, ℕ, ◌<◌, [], length, get_or}
-use Rattle.ja_supertypes.specs.Index.{HasJust}
+use Rattle.ja_supertypes.specs.InnerIndex.{HasJust}
 use Rattle.ja_supertypes.specs.Supertypes.{IsSuperclass}
 use Rattle.ja_supertypes.proofs.superclasses.superclass_sets.Given as goal
 

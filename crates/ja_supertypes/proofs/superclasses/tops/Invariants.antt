@@ -1,5 +1,5 @@
 use Rattle.std.proofs.Common.{◌≡◌, ℕ, ◌<◌, length, get_or}
-use Rattle.ja_supertypes.specs.Index.{IsTop}
+use Rattle.ja_supertypes.specs.InnerIndex.{IsTop}
 use Rattle.ja_supertypes.proofs.superclasses.tops.Given as goal
 
 abbrev pub invariant-loop-class : goal.invariant-loop-class

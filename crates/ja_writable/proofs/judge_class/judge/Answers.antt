@@ -1,6 +1,6 @@
 use Rattle.std.proofs.Common.{sym, ◌∙◌}
 use Rattle.ja_assembly.specs.Unwritable.{CannotBeWritten}
-use Rattle.ja_writable.specs.Judging.{IsState}
+use Rattle.ja_writable.specs.InnerJudging.{IsState}
 use Rattle.ja_writable.proofs.Taken.{first_cause}
 use Rattle.ja_writable.proofs.judge_class.judge.Goals as goal
 

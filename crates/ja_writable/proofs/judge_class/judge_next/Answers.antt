@@ -1,7 +1,7 @@
 use Rattle.std.proofs.Common.{◌+◌, Err, ap, ◌∙◌}
 use Rattle.std.proofs.lemmas.Result.{err_from_is_err_and}
 use Rattle.ja_assembly.specs.Unwritable.{CannotBeWritten}
-use Rattle.ja_writable.specs.Judging.{IsState}
+use Rattle.ja_writable.specs.InnerJudging.{IsState}
 use Rattle.ja_writable.proofs.Taken.{next_takes, next_refused}
 use Rattle.ja_writable.proofs.judge_class.judge_next.Goals as goal
 

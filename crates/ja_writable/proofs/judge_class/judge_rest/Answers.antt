@@ -1,7 +1,7 @@
 use Rattle.std.proofs.Common.{◌≡◌, ◌+◌, drop, ap, arith}
 use Rattle.ja_listing.specs.declared.item.Head.{Head}
 use Rattle.ja_assembly.specs.Unwritable.{CannotBeWritten}
-use Rattle.ja_writable.specs.Judging.{IsState}
+use Rattle.ja_writable.specs.InnerJudging.{IsState}
 use Rattle.ja_writable.proofs.Judged.{one_clean, more_clean}
 use Rattle.ja_writable.proofs.Taken.{item_here, all_allowed, next_cause}
 use Rattle.ja_writable.proofs.judge_class.judge_rest.Goals as goal

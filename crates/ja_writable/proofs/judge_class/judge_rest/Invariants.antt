@@ -1,5 +1,5 @@
 use Rattle.std.proofs.Common.{◌≡◌, ℕ, ◌+◌, length, drop}
-use Rattle.ja_writable.specs.Judging.{IsState, IsClean, IsSmall}
+use Rattle.ja_writable.specs.InnerJudging.{IsState, IsClean, IsSmall}
 use Rattle.ja_writable.proofs.judge_class.judge_rest.Given as goal
 
 -- the first k items behind the one that begins the class can be written, and are known

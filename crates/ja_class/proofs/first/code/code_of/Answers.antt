@@ -2,8 +2,8 @@ use Rattle.std.proofs.Common.{◌≡◌, ◌-◌, ◌++◌, ◌∷◌, [], lengt
 use Rattle.std.proofs.lemmas.Bool.{eqb-true}
 use Rattle.std.proofs.lemmas.Result.{err_from_is_err_and}
 use Rattle.ja_class.specs.declared.first.FirstInstr.{FirstInstr}
-use Rattle.ja_class.specs.Reading.{code_from}
-use Rattle.ja_class.specs.Views.{entries}
+use Rattle.ja_class.specs.InnerReading.{code_from}
+use Rattle.ja_class.specs.InnerViews.{entries}
 use Rattle.ja_class.proofs.CodeLaws.{step_takes, code_more, code_refused, code_done, after_nothing, is_positive}
 use Rattle.ja_class.proofs.first.code.code_of.Goals as goal
 

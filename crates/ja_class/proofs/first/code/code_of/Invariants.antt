@@ -1,6 +1,6 @@
 use Rattle.std.proofs.Common.{◌≡◌, ◌≤◌, length}
-use Rattle.ja_class.specs.Reading.{code_from}
-use Rattle.ja_class.specs.Views.{entries}
+use Rattle.ja_class.specs.InnerReading.{code_from}
+use Rattle.ja_class.specs.InnerViews.{entries}
 use Rattle.ja_class.proofs.Exact.{IsBytes}
 use Rattle.ja_class.proofs.CodeLaws.{after_front}
 use Rattle.ja_class.proofs.first.code.code_of.Given as goal

@@ -1,5 +1,5 @@
 use Rattle.std.proofs.Common.{arith}
-use Rattle.ja_class.specs.Views.{entries}
+use Rattle.ja_class.specs.InnerViews.{entries}
 use Rattle.ja_class.proofs.CodeLaws.{given_shorter}
 use Rattle.ja_class.proofs.first.code.step_of.Goals as goal
 

@@ -1,7 +1,7 @@
 use Rattle.std.proofs.Common.{◌+◌, drop, sym, ap, ◌∙◌, arith}
 use Rattle.ja_class.specs.declared.first.FirstInstr.{FirstInstr}
 use Rattle.ja_class.specs.declared.first.FirstOp.TheVariants.{Load}
-use Rattle.ja_class.specs.Reading.{holds_of, runs}
+use Rattle.ja_class.specs.InnerReading.{holds_of, runs}
 use Rattle.ja_class.proofs.Steps.{runs_more, runs_last, runs_none}
 use Rattle.ja_class.proofs.first.frame.runs.Goals as goal
 

@@ -1,5 +1,5 @@
 use Rattle.std.proofs.Common.{◌≡◌, ◌≤◌, drop}
-use Rattle.ja_class.specs.Reading.{runs}
+use Rattle.ja_class.specs.InnerReading.{runs}
 use Rattle.ja_class.proofs.first.frame.runs.Given as goal
 
 abbrev pub invariant-loop-index : goal.invariant-loop-index

@@ -1,7 +1,7 @@
 use Rattle.std.proofs.Common.{◌≡◌, drop}
 use Rattle.std.specs.List.{list_all}
-use Rattle.ja_class.specs.Reading.{is_allowed}
-use Rattle.ja_class.specs.Views.{entries}
+use Rattle.ja_class.specs.InnerReading.{is_allowed}
+use Rattle.ja_class.specs.InnerViews.{entries}
 use Rattle.ja_class.proofs.first.names.allows_all.Given as goal
 
 abbrev pub invariant-loop-constant : goal.invariant-loop-constant

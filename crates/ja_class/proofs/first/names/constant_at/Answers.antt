@@ -1,5 +1,5 @@
 use Rattle.std.proofs.Common.{◌-◌, option_map, ap, ◌∙◌}
-use Rattle.ja_class.specs.Views.{entry_view}
+use Rattle.ja_class.specs.InnerViews.{entry_view}
 use Rattle.ja_class.proofs.Steps.{copied_is, entry_of}
 use Rattle.ja_class.proofs.first.names.constant_at.Goals as goal
 

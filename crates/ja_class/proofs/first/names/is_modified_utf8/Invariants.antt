@@ -1,5 +1,5 @@
 use Rattle.std.proofs.Common.{◌≡◌, drop}
-use Rattle.ja_class.specs.Reading.{is_utf8}
+use Rattle.ja_class.specs.InnerReading.{is_utf8}
 use Rattle.ja_class.proofs.first.names.is_modified_utf8.Given as goal
 
 abbrev pub invariant-loop-byte : goal.invariant-loop-byte

@@ -1,8 +1,8 @@
 use Rattle.std.proofs.Common.{◌≡◌, ◌++◌, ◌∷◌, []}
 use Rattle.std.proofs.lemmas.Result.{err_from_is_err_and}
 use Rattle.std.proofs.lemmas.List.{map_push}
-use Rattle.ja_class.specs.Views.{entries, entry_view}
-use Rattle.ja_class.specs.Reading.{entries_from}
+use Rattle.ja_class.specs.InnerViews.{entries, entry_view}
+use Rattle.ja_class.specs.InnerReading.{entries_from}
 use Rattle.ja_class.proofs.EntryLoop.{more, refused, all}
 use Rattle.ja_class.proofs.first.pool.constants_of.Goals as goal
 

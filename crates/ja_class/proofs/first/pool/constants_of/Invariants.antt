@@ -1,6 +1,6 @@
 use Rattle.std.proofs.Common.{◌≡◌, ◌-◌}
-use Rattle.ja_class.specs.Views.{entries}
-use Rattle.ja_class.specs.Reading.{entries_from}
+use Rattle.ja_class.specs.InnerViews.{entries}
+use Rattle.ja_class.specs.InnerReading.{entries_from}
 use Rattle.ja_class.proofs.EntryLoop.{after_front}
 use Rattle.ja_class.proofs.first.pool.constants_of.Given as goal
 

@@ -1,7 +1,7 @@
 use Rattle.std.proofs.lemmas.Result.{err_from_is_err_and}
 use Rattle.toml.specs.View.{table_view}
 use Rattle.ja_lib.specs.File.{MayBeDesc, SpellsRow}
-use Rattle.ja_lib.specs.Reading.{seen_of}
+use Rattle.ja_lib.specs.InnerReading.{seen_of}
 use Rattle.ja_lib.proofs.Reading.{finds_without}
 use Rattle.ja_lib.proofs.row_part.TableRowSpelled.read.Goals as goal
 

@@ -1,5 +1,5 @@
 use Rattle.std.proofs.Common.{◌≡◌, ap, ◌∙◌}
-use Rattle.ja_lib.specs.Index.{places_from, first_at}
+use Rattle.ja_lib.specs.InnerIndex.{places_from, first_at}
 use Rattle.ja_lib.proofs.Places.{row_by_places}
 use Rattle.ja_lib.proofs.table.Table.row_of.Goals as goal
 

@@ -1,6 +1,6 @@
 use Rattle.std.proofs.Common.{◌++◌, ap, sym, ◌∙◌, subst}
 use Rattle.ja_listing.specs.Listed.{AreNumbered}
-use Rattle.ja_listing.specs.Scope.{listed}
+use Rattle.ja_listing.specs.InnerScope.{listed}
 use Rattle.ja_listing.proofs.Listings.{numbers_extend}
 use Rattle.ja_listing.proofs.draft.Draft.extend.Goals as goal
 

@@ -1,6 +1,6 @@
 use Rattle.std.proofs.Common.{◌≡◌, ℕ, ◌∙◌, ◌+◌, ◌/◌, true, false, IsTrue, List, Bool, refl, sym, ap, subst, drop, length}
 use Rattle.ja_sets.specs.Sets.{Adds}
-use Rattle.ja_sets.specs.Words.{IsTidy, JoinsWords, GainsBits, flags}
+use Rattle.ja_sets.specs.InnerWords.{IsTidy, JoinsWords, GainsBits, flags}
 use Rattle.ja_sets.proofs.Values.{union-changes}
 use Rattle.ja_sets.proofs.Flags.{len-is, joined-tidy, joined-flags, joined-adds, written}
 use Rattle.ja_sets.proofs.bits.Bits.join.Goals as goal

@@ -1,6 +1,6 @@
 use Rattle.std.proofs.Common.{◌≡◌, ◌+◌, ◌/◌, ◌∙◌, replicate, ap, rules}
 use Rattle.ja_sets.proofs.Flags.{flags-zeros}
-use Rattle.ja_sets.specs.Words.{flags}
+use Rattle.ja_sets.specs.InnerWords.{flags}
 use Rattle.ja_sets.proofs.bits.Bits.new.Goals as goal
 
 pub returns-in-Ok : goal.returns-in-Ok

@@ -1,5 +1,5 @@
 use Rattle.std.proofs.Common.{◌∙◌, ap}
-use Rattle.ja_sets.specs.Rows.{rows}
+use Rattle.ja_sets.specs.InnerRows.{rows}
 use Rattle.ja_sets.proofs.Squares.{rows-zeros}
 use Rattle.ja_sets.proofs.pairs.PairSet.new.Goals as goal
 

@@ -1,6 +1,6 @@
 use Rattle.std.proofs.Common.{◌<◌, ℕ, List, length, ap, ◌∙◌, subst, arith}
 use Rattle.ja_ir.specs.declared.head.ClassHead.{ClassHead}
-use Rattle.ja_supertypes.specs.Index.{IsTop}
+use Rattle.ja_supertypes.specs.InnerIndex.{IsTop}
 use Rattle.ja_supertypes.specs.LibraryTypes.{IsNearest}
 use Rattle.ja_supertypes.specs.Supertypes.{superclass_name}
 use Rattle.ja_supertypes.proofs.Nearest.{top-nearest, top-none}

@@ -2,7 +2,7 @@
 use Rattle.std.specs.Prelude.{◌≡◌, ℕ, ◌<◌, ◌^◌, List, length, map}
 use Rattle.ja_pool.specs.declared.slot.Slot.{Slot}
 use Rattle.ja_pool.specs.Table.{Table, tags_of, dims_of}
-use Rattle.ja_pool.specs.Slot.{seen, AreInside, AreTagged}
+use Rattle.ja_pool.specs.InnerSlot.{seen, AreInside, AreTagged}
 
 -- the table that slots hold, where these are the pool's bytes
 abbrev pub table_in : List ℕ → List Slot → Table

@@ -14,7 +14,7 @@ use Rattle.ja_pool.specs.declared.slot.Slot.{Slot}
 use Rattle.ja_pool.specs.Entry.{Entry, is_number_tag, is_wide_tag, is_single_tag, is_pair_tag, tag_of, payload, spelling, IsEntry}
 use Rattle.ja_pool.specs.Table.{Table, entries_from, tags_of, IndexField, first_wrong}
 use Rattle.ja_pool.specs.Pool.{EndsInside, fields_behind, IsEntryFault}
-use Rattle.ja_pool.specs.Slot.{form_of, slot_of, nothing, pad_slots, slots_from}
+use Rattle.ja_pool.specs.InnerSlot.{form_of, slot_of, nothing, pad_slots, slots_from}
 
 -- the tag is one of this form
 abbrev pub HasShape : ℕ → Shape → Type 0

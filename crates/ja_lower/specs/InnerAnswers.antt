@@ -11,9 +11,9 @@ use Rattle.ja_methods.specs.Refusal.{IsRefused}
 use Rattle.ja_methods.specs.Sites.{AreSitesOf}
 use Rattle.ja_lower.specs.declared.place.Place.{Place}
 use Rattle.ja_lower.specs.declared.answer.Answer.{Answer}
-use Rattle.ja_lower.specs.Places.{IsPlace}
+use Rattle.ja_lower.specs.InnerPlaces.{IsPlace}
 use Rattle.ja_lower.specs.Program.{heads_of}
-use Rattle.ja_lower.specs.Steps.{AreUpTo}
+use Rattle.ja_lower.specs.InnerSteps.{AreUpTo}
 use Rattle.ja_base.specs.Limit.{max_numbered}
 
 -- the method of this place can be lowered or refused, where these are the heads of the classes

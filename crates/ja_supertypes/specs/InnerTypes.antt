@@ -2,7 +2,7 @@
 use Rattle.std.specs.Prelude.{◌≡◌, ℕ, ◌<◌, ◌++◌, List, [], ◌∷◌, Option, Some, None, bytes_eq, length, slice_get, slice_index_or, if◌then◌else◌}
 use Rattle.ja_ir.specs.declared.head.ClassHead.{ClassHead}
 use Rattle.ja_supertypes.specs.declared.tables.Tables.{Tables}
-use Rattle.ja_supertypes.specs.Index.{IsIndexed}
+use Rattle.ja_supertypes.specs.InnerIndex.{IsIndexed}
 use Rattle.ja_supertypes.specs.LibraryTypes.{AreLibraryTypes, Expands, first_places}
 use Rattle.ja_supertypes.specs.Supertypes.{place_of, interface_names, object_name}
 

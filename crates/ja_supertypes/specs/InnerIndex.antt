@@ -5,7 +5,7 @@ use Rattle.ja_sets.specs.Sets.{Has}
 use Rattle.ja_ir.specs.declared.head.ClassHead.{ClassHead}
 use Rattle.ja_supertypes.specs.declared.tables.Tables.{Tables}
 use Rattle.ja_supertypes.specs.Faults.{AreClasses}
-use Rattle.ja_supertypes.specs.Rows.{ShowsAll}
+use Rattle.ja_supertypes.specs.InnerRows.{ShowsAll}
 use Rattle.ja_supertypes.specs.Supertypes.{names_of, place_of, place_of_some, superclass_of, IsDirect, IsSuperclass, IsSuperinterface, IsSupertype, HasLibrarySupertype}
 use Rattle.ja_base.specs.Limit.{max_numbered}
 

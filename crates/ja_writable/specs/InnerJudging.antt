@@ -4,7 +4,7 @@ use Rattle.ja_listing.specs.declared.item.Item.{Item}
 use Rattle.ja_listing.specs.declared.item.Item.TheVariants.{Field, Method, Initializer, Try, Instruction}
 use Rattle.ja_listing.specs.Number.{has_code}
 use Rattle.ja_listing.specs.Listed.{Listed}
-use Rattle.ja_assembly.specs.Labels.{places}
+use Rattle.ja_assembly.specs.InnerLabels.{places}
 use Rattle.ja_listing.specs.declared.fault.MakeFault.{MakeFault}
 use Rattle.ja_listing.specs.declared.fault.MakeFault.TheVariants as faults
 use Rattle.ja_assembly.specs.declared.key.Key.{Key}
