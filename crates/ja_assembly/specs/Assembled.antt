@@ -20,6 +20,7 @@ use Rattle.ja_assembly.specs.declared.key.Key.TheVariants as keys
 use Rattle.ja_assembly.specs.Members.{unsigned, Member, Labelled, Range, Body, items_of_class, fields, methods, size_of_opcode, place_of_label}
 use Rattle.ja_assembly.specs.Wanted.{same_key, method_tag, pool_strings, pool_keys}
 use Rattle.ja_assembly.specs.Arguments.{argument_words}
+use Rattle.ja_base.specs.Tag as pool_tag
 
 -- ---- the constant pool (4.4): first the strings, from index 1 on, and then the other entries
 
@@ -51,12 +52,12 @@ member_index pool tag m = key_index pool (keys.Member tag m.class m.name m.desc)
 
 -- the entries
 abbrev pub string_entry : Pool → List ℕ → Entry
-string_entry pool text = single 8 (text_index pool text)
+string_entry pool text = single pool_tag.string (text_index pool text)
 
 abbrev pub key_entry : Pool → Key → Entry
 key_entry pool (keys.Text text) = utf8 text
-key_entry pool (keys.Class name) = single 7 (text_index pool name)
-key_entry pool (keys.NameAndType name desc) = pair 12 (text_index pool name) (text_index pool desc)
+key_entry pool (keys.Class name) = single pool_tag.class (text_index pool name)
+key_entry pool (keys.NameAndType name desc) = pair pool_tag.name_and_type (text_index pool name) (text_index pool desc)
 key_entry pool (keys.Member tag class name desc) = pair tag (class_index pool class) (key_index pool (keys.NameAndType name desc))
 
 abbrev pub entries_of : Pool → List Entry
@@ -107,7 +108,7 @@ operand_bytes pool labels pc form (LocalAndConstant local change) = u1 local.siz
 operand_bytes pool labels pc form (Label name) = branch_bytes form pc (place_or_0 (labels name))
 operand_bytes pool labels pc form (Quotation text) = u1 (string_index pool text)
 operand_bytes pool labels pc form (ClassName name) = u2 (class_index pool name)
-operand_bytes pool labels pc form (FieldName m) = u2 (member_index pool 9 m)
+operand_bytes pool labels pc form (FieldName m) = u2 (member_index pool pool_tag.field m)
 operand_bytes pool labels pc form (MethodName m) = u2 (member_index pool (method_tag form) m) ++ padding_bytes form m.desc
 operand_bytes pool labels pc form (ArrayName name dimensions) = u2 (class_index pool name) ++ u1 dimensions.size
 

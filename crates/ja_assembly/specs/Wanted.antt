@@ -14,6 +14,7 @@ use Rattle.ja_listing.specs.declared.item.Item.TheVariants.{Field, Method, Initi
 use Rattle.ja_assembly.specs.declared.key.Key.{Key}
 use Rattle.ja_assembly.specs.declared.key.Key.TheVariants.{Text, Class, NameAndType, Member}
 use Rattle.ja_assembly.specs.contracts.key.KeyPartialEq.TheImpl.{ghosts}
+use Rattle.ja_base.specs.Tag as pool_tag
 
 -- whether two entries are the same, as `==` compares them
 abbrev pub same_key : Key → Key → Bool
@@ -33,8 +34,8 @@ class_keys name = Text name ∷ Class name ∷ []
 
 -- the tag of the entries that name the methods of an opcode: those of an interface, or of a class
 abbrev pub method_tag : Option Form → ℕ
-method_tag (Some forms.Interface) = 11
-method_tag _ = 10
+method_tag (Some forms.Interface) = pool_tag.interface_method
+method_tag _ = pool_tag.method
 
 -- the entries of a member with a tag
 abbrev pub member_keys : ℕ → MemberName → List Key
@@ -49,7 +50,7 @@ operand_keys opcode (LocalAndConstant local change) = []
 operand_keys opcode (Label name) = []
 operand_keys opcode (Quotation bytes) = Text bytes ∷ []
 operand_keys opcode (ClassName name) = class_keys name
-operand_keys opcode (FieldName m) = member_keys 9 m
+operand_keys opcode (FieldName m) = member_keys pool_tag.field m
 operand_keys opcode (MethodName m) = member_keys (method_tag (form_at opcode)) m
 operand_keys opcode (ArrayName name dimensions) = class_keys name
 

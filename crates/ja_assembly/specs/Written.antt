@@ -55,7 +55,7 @@ SaysOperand table labels form (LocalAndConstant local change) values = values �
 SaysOperand table labels form (Label name) values = (place : ℕ) × (labels name ≡ Some place) × (values ≡ place ∷ [])
 SaysOperand table labels form (Quotation text) values = (i : ℕ) × NamesText table i text × (values ≡ i ∷ [])
 SaysOperand table labels form (ClassName name) values = (i : ℕ) × NamesClass table i name × (values ≡ i ∷ [])
-SaysOperand table labels form (FieldName member) values = (i : ℕ) × NamesMember table 9 i member × (values ≡ i ∷ [])
+SaysOperand table labels form (FieldName member) values = (i : ℕ) × NamesMember table pool_tag.field i member × (values ≡ i ∷ [])
 SaysOperand table labels form (MethodName member) values = (i : ℕ) × NamesMember table (method_tag form) i member × (values ≡ i ∷ [])
 SaysOperand table labels form (ArrayName name dimensions) values = (i : ℕ) × NamesClass table i name × (values ≡ i ∷ dimensions.size ∷ [])
 

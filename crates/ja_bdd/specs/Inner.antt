@@ -1,5 +1,5 @@
 -- Words of the private functions: what the cache holds, and how far a recursion is from its end.
-use Rattle.std.specs.Prelude.{◌≡◌, ℕ, ◌-◌, ◌*◌, ◌<◌, ◌≤◌, ◌&&◌, ◌||◌, ◌⊎◌, min, max, Bool, true, false, List, Option, None, Some, slice_get, slice_set}
+use Rattle.std.specs.Prelude.{Bool, List, None, Option, Some, false, max, min, slice_get, slice_set, true, ℕ, ◌&&◌, ◌*◌, ◌+◌, ◌-◌, ◌<◌, ◌||◌, ◌≡◌, ◌≤◌, ◌⊎◌}
 use Rattle.ja_node_core.specs.Word.{var_of}
 use Rattle.ja_node_core.specs.Node.{Words, Knows, constant}
 use Rattle.ja_node_core.specs.declared.word.Node.{Node}

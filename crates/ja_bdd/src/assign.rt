@@ -15,7 +15,7 @@ pub struct Assign {
 }
 
 impl Assign {
-    ghost use Rattle.std.specs.Prelude.{◌≡◌, ◌≤◌, ℕ, false, IfOk};
+    ghost use Rattle.std.specs.Prelude.{◌≡◌, ◌<◌, ℕ, false, IfOk};
     ghost use Rattle.ja_bdd.specs.Functions.{with_var};
     ghost use Rattle.ja_bdd.specs.Variables.{values_of};
 

@@ -7,6 +7,7 @@ use Rattle.ja_class.specs.Pool.{PoolEntry, Utf8, Class, String, Methodref, NameA
 use Rattle.ja_class.specs.Instruction.{Instruction, bytes_of, IsCodeFrom}
 use Rattle.ja_class.specs.Runnable.{IsRunnable}
 use Rattle.ja_class.specs.declared.first.FirstMethod.{FirstMethod}
+use Rattle.ja_base.specs.Tag as pool_tag
 
 -- a Code attribute without exception table and attributes (4.7.3)
 pub record CodeAttribute : Type 0 where
@@ -41,11 +42,11 @@ u4 n = to_be_bytes w32 n
 
 -- the bytes of an entry of the pool: its tag, and what it holds
 abbrev pub entry_bytes : PoolEntry → List ℕ
-entry_bytes (Utf8 text) = 1 ∷ u2 (length text) ++ text
-entry_bytes (Class name) = 7 ∷ u2 name
-entry_bytes (String text) = 8 ∷ u2 text
-entry_bytes (Methodref class name_and_type) = 10 ∷ u2 class ++ u2 name_and_type
-entry_bytes (NameAndType name descriptor) = 12 ∷ u2 name ++ u2 descriptor
+entry_bytes (Utf8 text) = pool_tag.utf8 ∷ u2 (length text) ++ text
+entry_bytes (Class name) = pool_tag.class ∷ u2 name
+entry_bytes (String text) = pool_tag.string ∷ u2 text
+entry_bytes (Methodref class name_and_type) = pool_tag.method ∷ u2 class ++ u2 name_and_type
+entry_bytes (NameAndType name descriptor) = pool_tag.name_and_type ∷ u2 name ++ u2 descriptor
 
 -- the content of a Code attribute: the frame, the code, no exception entry and no attribute
 abbrev pub code_content : CodeAttribute → List ℕ

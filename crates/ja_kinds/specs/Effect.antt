@@ -50,16 +50,20 @@ place_of (Fixed place) i = place
 abbrev pub constant_kind : ℕ → Option Kind
 constant_kind tag = if tag == pool_tag.class || tag == pool_tag.string then Some R else if tag == pool_tag.integer || tag == pool_tag.float then Some P1 else None
 
+-- the tag of the entry that an instruction names
+abbrev pub tag_named : Table → RawInstr → ℕ
+tag_named pool i = tag_at pool (operand_at i 0)
+
 -- the member that an instruction names is a field of this kind
 pub record NamesField (pool : Table) (i : RawInstr) (kind : Kind) : Type 0 where
-  pub member : IsTrue (is_member_tag (tag_at pool (operand_at i 0)))
+  pub member : IsTrue (is_member_tag (tag_named pool i))
   pub type : JavaType
   pub field : IsField (member_desc_at pool (operand_at i 0)) type
   pub same : kind ≡ type.kind
 
 -- the member that an instruction names is a method that takes and gives values of these kinds
 pub record NamesMethod (pool : Table) (i : RawInstr) (taken : List Kind) (given : Option Kind) : Type 0 where
-  pub member : IsTrue (is_member_tag (tag_at pool (operand_at i 0)))
+  pub member : IsTrue (is_member_tag (tag_named pool i))
   pub params : List JavaType
   pub result : Option JavaType
   pub method : IsMethod (member_desc_at pool (operand_at i 0)) params result
@@ -119,7 +123,7 @@ method_effect behaviour taken given = None
 -- a behaviour has this effect, by the operands of the instruction and the pool
 pub data HasEffect (pool : Table) (i : RawInstr) (behaviour : Behaviour) (effect : Effect) : Type 0 where
   fixed : fixed_effect i behaviour ≡ Some effect → HasEffect pool i behaviour effect
-  loaded : {kind : Kind} → constant_kind (tag_at pool (operand_at i 0)) ≡ Some kind → loaded_effect behaviour kind ≡ Some effect
+  loaded : {kind : Kind} → constant_kind (tag_named pool i) ≡ Some kind → loaded_effect behaviour kind ≡ Some effect
       → HasEffect pool i behaviour effect
   field : {kind : Kind} → NamesField pool i kind → field_effect behaviour kind ≡ Some effect → HasEffect pool i behaviour effect
   method : {taken : List Kind} {given : Option Kind} → NamesMethod pool i taken given → method_effect behaviour taken given ≡ Some effect

@@ -1,6 +1,6 @@
 ghost use Rattle.std.specs.Prelude.{◌≡◌, false, IfOk, IfSome, IfNone, IsTrue, map, option_map};
 ghost use Rattle.ja_pool.specs.Table.{tag_at, is_member_tag};
-ghost use Rattle.ja_kinds.specs.Effect.{constant_kind, kind_of_type};
+ghost use Rattle.ja_kinds.specs.Effect.{constant_kind, kind_of_type, tag_named};
 ghost use Rattle.ja_code.specs.Grammar.{operand_at};
 ghost use Rattle.ja_kinds.specs.InnerReading.{FindsField, FindsMethod};
 
@@ -21,7 +21,7 @@ pub(crate) struct MethodKinds {
 
 /// The tag of the entry that an instruction names, 0 where it names none.
 pub fn tag_named(pool: &Pool, instr: &RawInstr) -> u8
-    ensures { result ≡ tag_at pool.now (operand_at instr.now 0) }
+    ensures { result ≡ tag_named pool.now instr.now }
 {
     let index = instr.operand(0);
     if index < u64::from(pool.count()) {

@@ -9,19 +9,11 @@ ghost use Rattle.ja_maker.specs.InnerWriting.{pool_in, IsFew};
 
 use crate::put::{put_bytes, put_u1, put_u2};
 use ja_assembly::Key;
+use ja_base::tag::{CLASS, NAME_AND_TYPE, STRING, UTF8};
 use ja_base::{Bytes, Memory, Name};
 use ja_listing::MemberName;
 use ja_writable::Wants;
 use std::alloc::Global;
-
-/// The tags of entries (JVM specification table 4.4-A).
-const UTF8: u64 = 1;
-
-const CLASS: u64 = 7;
-
-const STRING: u64 = 8;
-
-const NAME_AND_TYPE: u64 = 12;
 
 /// The index of a string, or 0.
 pub(crate) fn string_index(pool: &Wants, text: &Name) -> u64
@@ -90,11 +82,10 @@ pub(crate) fn member_index(
 }
 
 /// A tag and an index.
-fn put_single(out: &mut Bytes, tag: u64, index: u64) -> Result<(), Memory>
-    requires { tag < 256 }
+fn put_single(out: &mut Bytes, tag: u8, index: u64) -> Result<(), Memory>
     ensures { OnOk result (out.new ≡ out.old ++ spelling (single tag index)) }
 {
-    put_u1(out, tag)?;
+    put_u1(out, u64::from(tag))?;
     put_u2(out, index)
 }
 
@@ -131,7 +122,7 @@ pub(crate) fn put_key(alloc: Global, out: &mut Bytes, pool: &Wants, key: &Key) -
         Key::Member(tag, class, name, desc) => {
             let class = class_index(alloc, pool, class)?;
             let pair = pair_index(alloc, pool, name, desc)?;
-            put_pair(out, u64::from(*tag), class, pair)
+            put_pair(out, *tag, class, pair)
         }
     }
 }
@@ -140,17 +131,16 @@ pub(crate) fn put_key(alloc: Global, out: &mut Bytes, pool: &Wants, key: &Key) -
 fn put_text(out: &mut Bytes, text: &Name) -> Result<(), Memory>
     ensures { OnOk result (out.new ≡ out.old ++ spelling (utf8 text.now)) }
 {
-    put_u1(out, UTF8)?;
+    put_u1(out, u64::from(UTF8))?;
     put_u2(out, text.bytes().len() as u64)?;
     put_bytes(out, text.bytes())
 }
 
 /// A tag and two indices.
-fn put_pair(out: &mut Bytes, tag: u64, first: u64, second: u64) -> Result<(), Memory>
-    requires { tag < 256 }
+fn put_pair(out: &mut Bytes, tag: u8, first: u64, second: u64) -> Result<(), Memory>
     ensures { OnOk result (out.new ≡ out.old ++ spelling (pair tag first second)) }
 {
-    put_u1(out, tag)?;
+    put_u1(out, u64::from(tag))?;
     put_u2(out, first)?;
     put_u2(out, second)
 }

@@ -27,7 +27,7 @@ use Rattle.ja_code.specs.declared.behaviour.Behaviour.{Behaviour}
 use Rattle.ja_code.specs.declared.behaviour.FieldAccess.TheVariants.{GetStatic, PutStatic, GetField, PutField}
 use Rattle.ja_code.specs.declared.behaviour.Behaviour.TheVariants as does
 use Rattle.ja_operations.specs.declared.member.MemberRef.{MemberRef}
-use Rattle.ja_operations.specs.Names.{member_in, tag_named}
+use Rattle.ja_operations.specs.Names.{member_in}
 use Rattle.ja_operations.specs.Tokens.{library_token}
 use Rattle.ja_operations.specs.Fields as fields
 use Rattle.ja_operations.specs.Fields.{Accesses, static_read, member_read, member_write}
@@ -35,6 +35,7 @@ use Rattle.ja_operations.specs.Rows.{IsRow, default_row, first_row}
 use Rattle.ja_operations.specs.Targets.{call_kind}
 use Rattle.ja_operations.specs.Operation.{loaded as loaded_op, Calls, OperatesAs, IsOperation}
 use Rattle.ja_operations.specs.Agreement.{IsRowAbout}
+use Rattle.ja_kinds.specs.Effect.{tag_named}
 
 -- ---- rows of the table
 

@@ -18,9 +18,8 @@ use Rattle.ja_code.specs.declared.behaviour.Behaviour.{Behaviour}
 use Rattle.ja_code.specs.declared.behaviour.Behaviour.TheVariants as does
 use Rattle.ja_kinds.specs.declared.effect.Effect.{Effect}
 use Rattle.ja_code.specs.Behaviour.{behaviour_at}
-use Rattle.ja_kinds.specs.Effect.{HasEffect, fixed, loaded, field, method, Does, IsOneOf}
+use Rattle.ja_kinds.specs.Effect.{Does, HasEffect, IsOneOf, field, fixed, loaded, method, tag_named}
 use Rattle.ja_code.proofs.Rows.{no_behaviour}
-use Rattle.ja_operations.specs.Names.{tag_named}
 use Rattle.ja_operations.specs.Profile.{Suits, IsProfiled}
 
 -- ---- from the effect

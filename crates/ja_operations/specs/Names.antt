@@ -1,13 +1,9 @@
 -- What an instruction names in the constant pool (JVM specification 4.4, 6.5).
 use Rattle.std.specs.Prelude.{ℕ, List}
-use Rattle.ja_pool.specs.Table.{Table, tag_at, class_name_at, member_class_at, member_name_at, member_desc_at}
+use Rattle.ja_pool.specs.Table.{Table, class_name_at, member_class_at, member_name_at, member_desc_at}
 use Rattle.ja_code.specs.declared.instr.RawInstr.{RawInstr}
 use Rattle.ja_code.specs.Grammar.{operand_at}
 use Rattle.ja_operations.specs.declared.member.MemberRef.{MemberRef}
-
--- the tag of the entry that an instruction names
-abbrev pub tag_named : Table → RawInstr → ℕ
-tag_named pool i = tag_at pool (operand_at i 0)
 
 -- the name of the class that it names
 abbrev pub class_in : Table → RawInstr → List ℕ

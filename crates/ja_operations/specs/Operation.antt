@@ -18,10 +18,10 @@ use Rattle.ja_code.specs.declared.behaviour.FieldAccess.TheVariants.{GetStatic, 
 use Rattle.ja_code.specs.declared.behaviour.Behaviour.{Behaviour}
 use Rattle.ja_code.specs.declared.behaviour.Behaviour.TheVariants.{Nothing, Constant, Loaded, Load, Store, Increment, ArrayLoad, ArrayStore, Rearrange, Compute, Test, Jump, Switch, Return, Access, Invoke, New, NewArray, NewArrays, ArrayLength, Throw, Cast, InstanceOf, Monitor}
 use Rattle.ja_code.specs.Behaviour.{behaviour_at}
-use Rattle.ja_kinds.specs.Effect.{place_of, kinds_of}
+use Rattle.ja_kinds.specs.Effect.{kinds_of, place_of, tag_named}
 use Rattle.ja_code.specs.Grammar.{operand_at}
 use Rattle.ja_operations.specs.declared.member.MemberRef.{MemberRef}
-use Rattle.ja_operations.specs.Names.{tag_named, class_in, member_in}
+use Rattle.ja_operations.specs.Names.{class_in, member_in}
 use Rattle.ja_operations.specs.Tokens.{library_token, token_of_class, token_of_array, token_of_innermost}
 use Rattle.ja_operations.specs.Shuffles.{move_after, shuffle_of}
 use Rattle.ja_operations.specs.Fields.{Accesses, WritesStatic, static_read, member_read, member_write}

@@ -8,7 +8,8 @@ use Rattle.ja_code.specs.declared.behaviour.Behaviour.{Behaviour}
 use Rattle.ja_code.specs.declared.behaviour.Behaviour.TheVariants.{Access, Invoke, New, NewArrays, Cast, InstanceOf}
 use Rattle.ja_code.specs.Behaviour.{behaviour_at}
 use Rattle.ja_code.specs.Grammar.{operand_at}
-use Rattle.ja_operations.specs.Names.{tag_named, desc_in}
+use Rattle.ja_operations.specs.Names.{desc_in}
+use Rattle.ja_kinds.specs.Effect.{tag_named}
 
 -- the instruction names a class
 abbrev pub NamesClass : Table → RawInstr → Type 0

@@ -1,11 +1,11 @@
 ghost use Rattle.std.specs.Prelude.{◌≡◌, IfOk, IfErr};
 ghost use Rattle.ja_bytes.specs.DescriptorText.{IsFieldDesc};
 ghost use Rattle.ja_ir.specs.declared.op.Op.TheVariants as ops;
-ghost use Rattle.ja_operations.specs.Fields.{IsFieldAt, static_read, member_read, member_write, CallsForeign, Accesses, WritesStatic};
+ghost use Rattle.ja_operations.specs.Fields.{IsFieldAt, field_row, field_call, static_read, member_read, member_write, CallsForeign, Accesses, WritesStatic};
 ghost use Rattle.ja_operations.specs.Refused.{RefusesAccess, RefusesStore, UnlessMemory};
 
 use crate::{MemberRef, OpFault};
-use ja_base::{JavaTypes, Memory, Numbers};
+use ja_base::{JavaType, JavaTypes, Memory, Numbers};
 use ja_bytes::field_type;
 use ja_hier::{FieldAt, Hier};
 use ja_ir::{CallKind, CallOp, LibRow, Op, RowEffect, RowFlow, RowResult};
@@ -22,31 +22,65 @@ fn field_at(hier: &Hier, member: &MemberRef) -> FieldAt
     }
 }
 
+/// The row of an access of a library field.
+fn field_row(
+    alloc: Global,
+    table: &Table,
+    flow: RowFlow,
+    effect: RowEffect,
+    gives: RowResult,
+) -> Result<LibRow, Memory>
+    ensures { IfOk result (λ row. row ≡ field_row table.now.categories flow effect gives) }
+{
+    let marks = table.all_marks(alloc)?;
+    Ok(LibRow {
+        flow,
+        effect,
+        result: gives,
+        sinks: Numbers::new(alloc),
+        marks,
+        category: 0,
+    })
+}
+
+/// The call that such an access is.
+fn field_call(
+    kind: CallKind,
+    member: MemberRef,
+    params: JavaTypes,
+    gives: Option<JavaType>,
+    row: LibRow,
+) -> CallOp
+    ensures { result ≡ field_call kind member params gives row }
+{
+    let MemberRef { class, name, desc } = member;
+    CallOp {
+        kind,
+        class,
+        name,
+        desc,
+        params,
+        result: gives,
+        row,
+        found: None,
+    }
+}
+
 /// A read of a static library field.
 fn static_read(alloc: Global, table: &Table, member: MemberRef) -> Result<CallOp, Memory>
     requires { IsFieldDesc member.desc }
     ensures { IfOk result (CallsForeign member (static_read table.now.categories member)) }
 {
     let found = field_type(alloc, member.desc.bytes())?;
-    let marks = table.all_marks(alloc)?;
-    let MemberRef { class, name, desc } = member;
-    Ok(CallOp {
-        kind: CallKind::StaticField,
-        class,
-        name,
-        desc,
-        params: JavaTypes::new(alloc),
-        result: Some(found),
-        row: LibRow {
-            flow: RowFlow::Never,
-            effect: RowEffect::Quiet,
-            result: RowResult::Fresh,
-            sinks: Numbers::new(alloc),
-            marks,
-            category: 0,
-        },
-        found: None,
-    })
+    let row = field_row(
+        alloc,
+        table,
+        RowFlow::Never,
+        RowEffect::Quiet,
+        RowResult::Fresh,
+    )?;
+    let params = JavaTypes::new(alloc);
+    Ok(field_call(CallKind::StaticField, member, params, Some(found), row))
 }
 
 /// A read of another library field.
@@ -55,25 +89,15 @@ fn member_read(alloc: Global, table: &Table, member: MemberRef) -> Result<CallOp
     ensures { IfOk result (CallsForeign member (member_read table.now.categories member)) }
 {
     let found = field_type(alloc, member.desc.bytes())?;
-    let marks = table.all_marks(alloc)?;
-    let MemberRef { class, name, desc } = member;
-    Ok(CallOp {
-        kind: CallKind::MemberField,
-        class,
-        name,
-        desc,
-        params: JavaTypes::new(alloc),
-        result: Some(found),
-        row: LibRow {
-            flow: RowFlow::Args,
-            effect: RowEffect::Quiet,
-            result: RowResult::Any,
-            sinks: Numbers::new(alloc),
-            marks,
-            category: 0,
-        },
-        found: None,
-    })
+    let row = field_row(
+        alloc,
+        table,
+        RowFlow::Args,
+        RowEffect::Quiet,
+        RowResult::Any,
+    )?;
+    let params = JavaTypes::new(alloc);
+    Ok(field_call(CallKind::MemberField, member, params, Some(found), row))
 }
 
 /// A write of a library field that is not static.
@@ -84,25 +108,14 @@ fn member_write(alloc: Global, table: &Table, member: MemberRef) -> Result<CallO
     let written = field_type(alloc, member.desc.bytes())?;
     let mut params = JavaTypes::new(alloc);
     params.push(written)?;
-    let marks = table.all_marks(alloc)?;
-    let MemberRef { class, name, desc } = member;
-    Ok(CallOp {
-        kind: CallKind::MemberField,
-        class,
-        name,
-        desc,
-        params,
-        result: None,
-        row: LibRow {
-            flow: RowFlow::Args,
-            effect: RowEffect::Absorb,
-            result: RowResult::Fresh,
-            sinks: Numbers::new(alloc),
-            marks,
-            category: 0,
-        },
-        found: None,
-    })
+    let row = field_row(
+        alloc,
+        table,
+        RowFlow::Args,
+        RowEffect::Absorb,
+        RowResult::Fresh,
+    )?;
+    Ok(field_call(CallKind::MemberField, member, params, None, row))
 }
 
 /// What `getstatic` does.

@@ -2,7 +2,8 @@ ghost use Rattle.std.specs.Prelude.{◌≡◌, ◌≢◌, IfOk, IsTrue};
 ghost use Rattle.ja_base.specs.Tag as pool_tag;
 ghost use Rattle.ja_pool.specs.Table.{is_member_tag};
 ghost use Rattle.ja_code.specs.Grammar.{operand_at};
-ghost use Rattle.ja_operations.specs.Names.{tag_named, class_in, member_in};
+ghost use Rattle.ja_operations.specs.Names.{class_in, member_in};
+ghost use Rattle.ja_kinds.specs.Effect.{tag_named};
 
 use ja_base::{Memory, Name};
 use ja_code::RawInstr;

@@ -6,7 +6,7 @@ ghost use Rattle.ja_order.specs.Order.{HasFrame};
 ghost use Rattle.ja_base.specs.Limit.{max_frame_values};
 
 use ja_base::JavaType;
-use ja_ir::Method;
+use ja_ir::{Method, is_static};
 
 /// How many locals a method's parameters take, how many locals there are, and how many values on the
 /// stack.
@@ -29,7 +29,7 @@ fn words_of(types: &[JavaType]) -> u32
 fn receiver_words(method: &Method) -> u32
     ensures { result ≡ count_of (is_member method.now.flags) }
 {
-    if method.flags & 0x0008 == 0 { 1 } else { 0 }
+    if is_static(method.flags) { 0 } else { 1 }
 }
 
 impl Frame {

@@ -1,6 +1,6 @@
 //! The slots of a method in the order of their places.
 use ja_base::{JavaType, Memory};
-use ja_ir::Method;
+use ja_ir::{Method, is_static};
 use ja_order::Order;
 
 /// How many words values of these types take.
@@ -14,7 +14,7 @@ fn words_of(types: &[JavaType]) -> u32 {
 
 /// How many locals the parameters take.
 fn param_words(method: &Method) -> u32 {
-    words_of(method.types.params.as_slice()).saturating_add(u32::from(method.flags & 0x0008 == 0))
+    words_of(method.types.params.as_slice()).saturating_add(u32::from(!is_static(method.flags)))
 }
 
 /// Adds the name of a slot.
