@@ -29,7 +29,8 @@ pub enum Refusal {
     },
     /// The table file is not a text in TOML.
     TableText,
-    /// A top-level key of the table file that is unknown or no array of tables.
+    /// A key at the top of the table file that is none of `row`, `entry` and `category`, or a `row` or `entry` that is no
+    /// array of tables.
     TableKey,
     /// A row of the table file that breaks its rules.
     TableRow {

@@ -15,5 +15,5 @@ mod supers;
 pub use class_info::class_infos;
 pub use entry::entries;
 pub use field::fields;
-pub use law::law_one_outline;
+pub use law::law_one_heads;
 pub use signature::Signature;

@@ -41,8 +41,8 @@ pub enum RowResult {
     Fresh,
     /// Its first argument.
     Argument,
-    /// Something new, or something that its first argument reaches through bags.
+    /// Something new, or something that its first argument reaches through the bags of absorbing objects.
     Member,
-    /// Something new, or something that an argument reaches.
+    /// Something new, or something that an argument reaches, through fields and bags.
     Any,
 }

@@ -11,7 +11,7 @@ pub struct EntryRow {
     pub desc: Name,
     /// The argument positions, a receiver first, at which the environment passes tainted values.
     pub marked: Numbers,
-    /// For each category of marks, whether values that are marked so may be passed there.
+    /// For each category of marks, whether the values that are passed there are marked so.
     pub marks: Flags,
 }
 

@@ -7,8 +7,8 @@ pub enum TableFault {
     /// The bytes are not UTF-8, or no text in TOML.
     #[error("the table is not a text in TOML")]
     Text,
-    /// A top-level key is unknown, or is no array of tables.
-    #[error("the table has a top-level key that is unknown or no array of tables")]
+    /// A key at the top is none of `row`, `entry` and `category`, or `row` or `entry` is no array of tables.
+    #[error("the table has an unknown key at the top, or its rows or entries are no array of tables")]
     UnknownKey,
     /// The list of categories of marks is no array of 1 to 8 distinct names of 1 to 32 bytes from a to z,
     /// 0 to 9 and _.

@@ -9,7 +9,7 @@ ghost use Rattle.ja_lower.specs.Folder.{AreNamedApart};
 ghost use Rattle.ja_lower.specs.Program.{IsProgramOf, IsRefusedWhole};
 
 use ja_class::law_spelled_or_refused;
-use ja_heads::law_one_outline;
+use ja_heads::law_one_heads;
 use ja_lib::law_one_answer;
 use ja_methods::law_one_method;
 
@@ -23,7 +23,7 @@ pub fn law_one_program()
         IsProgramOf files classes content p → IsRefusedWhole files classes refusal → ⊥ }
 {
     law_one_method();
-    law_one_outline();
+    law_one_heads();
 }
 
 /// A folder, no two files of which have one name, is accepted as one program at most, refused for one

@@ -24,7 +24,7 @@ use Rattle.ja_machine.specs.Step.{object_grown}
 use Rattle.ja_machine.specs.Run.{call_run, store_in, events_in}
 
 -- an object that the environment has: its place, and the categories in which it is noted: those of the marks that it was made with, and
--- those in which the objects are noted that its bag took when it was made
+-- those of the objects that were put into its bag when it was made
 pub record Known : Type 0 where
   pub place : ℕ
   pub noted : ℕ

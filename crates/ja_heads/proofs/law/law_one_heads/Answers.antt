@@ -1,5 +1,5 @@
 use Rattle.ja_heads.proofs.Outline.{same-infos, same-entries}
-use Rattle.ja_heads.proofs.law.law_one_outline.Goals as goal
+use Rattle.ja_heads.proofs.law.law_one_heads.Goals as goal
 
 pub returns-clause-classes : goal.returns-clause-classes
 returns-clause-classes c = same-infos
