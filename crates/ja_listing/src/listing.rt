@@ -26,8 +26,8 @@ impl Model for Listing {
 impl Listing {
     ghost use Rattle.std.specs.Prelude.{◌≡◌, ◌++◌, ◌∷◌, [], OnOk};
 
-    /// A class that an item with this number begins, and so far no other item. It takes no memory.
-    pub(crate) fn new(alloc: Global, number: u64, head: Head) -> Listing
+    /// A class that an item with this number begins, with no other item so far. It takes no memory.
+    pub fn new(alloc: Global, number: u64, head: Head) -> Listing
         ensures { result ≡ record { number = number; head = head; items = [] } }
     {
         Listing {
@@ -37,8 +37,8 @@ impl Listing {
         }
     }
 
-    /// Adds an item.
-    pub(crate) fn push(&mut self, item: Item) -> Result<(), Memory>
+    /// Adds an item behind the others. An error is want of memory; the class is then as it was before, or has the item.
+    pub fn push(&mut self, item: Item) -> Result<(), Memory>
         ensures { OnOk result (self.new ≡ record { number = self.old.number; head = self.old.head; items = self.old.items ++ item ∷ [] }) }
     {
         self.items.push(item)
