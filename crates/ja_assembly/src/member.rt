@@ -3,14 +3,14 @@
 ghost use Rattle.std.specs.Prelude.{◌≡◌, codes, IfOk};
 ghost use Rattle.ja_assembly.specs.Wanted.{method_tag};
 
-use ja_base::tag::{INTERFACE_METHOD, METHOD};
+use ja_base::tag::{INTERFACE_METHOD, METHOD, Tag};
 use ja_base::{Memory, Name};
 use ja_code::Form;
 use ja_listing::MemberName;
 use std::alloc::Global;
 
 /// The tag of the entries that name the methods of an opcode.
-pub fn method_tag(form: Option<Form>) -> u8
+pub fn method_tag(form: Option<Form>) -> Tag
     ensures { result ≡ method_tag form }
 {
     match form {

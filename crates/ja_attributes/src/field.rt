@@ -10,12 +10,12 @@ ghost use Rattle.ja_attributes.specs.InnerSteps.{content_of, behind_all, seen};
 use crate::AttributeFault;
 use crate::attribute::{Attribute, is_named, next_attribute};
 use crate::number::two_bytes;
-use ja_base::tag::{DOUBLE, FLOAT, INTEGER, LONG, STRING};
+use ja_base::tag::{DOUBLE, FLOAT, INTEGER, LONG, STRING, Tag};
 use ja_bytes::Cursor;
 use ja_pool::Pool;
 
 /// Whether an entry with this tag may be the value of a field (JVM specification 4.7.2).
-fn is_value_tag(tag: u8) -> bool
+fn is_value_tag(tag: Tag) -> bool
     ensures { result ≡ is_value_tag tag }
 {
     matches!(tag, INTEGER | FLOAT | LONG | DOUBLE | STRING)

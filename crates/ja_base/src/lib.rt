@@ -18,8 +18,8 @@ pub use id::{BlockId, ClassId, FieldId, MethodId, SiteId};
 pub use index::NumbersByName;
 pub use java_type::{Desc, JavaType, JavaTypes, Kind};
 pub use limit::{
-    MAX_CATEGORIES, MAX_CLASS_FILES, MAX_FILE_BYTES, MAX_FRAME_VALUES, MAX_GENERATED_CLASSES, MAX_NUMBERED,
-    MAX_SLOTS, MAX_TOTAL_BYTES, MAX_VARIABLES, MAX_WORKERS, MIN_SLOTS,
+    MAX_CATEGORIES, MAX_CLASS_FILES, MAX_FILE_BYTES, MAX_FRAME_VALUES, MAX_GENERATED_CLASSES,
+    MAX_NUMBERED, MAX_SLOTS, MAX_TOTAL_BYTES, MAX_VARIABLES, MAX_WORKERS, MIN_SLOTS,
 };
 pub use memory::Memory;
 pub use name::{Name, Names, copy_names};

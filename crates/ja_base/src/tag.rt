@@ -1,43 +1,46 @@
 //! The tags of the entries of a constant pool (JVM specification 4.4, table 4.4-A).
 
+/// The tag of an entry, or 0 where there is none.
+pub type Tag = u8;
+
 /// A text.
-pub const UTF8: u8 = 1;
+pub const UTF8: Tag = 1;
 
 /// An int.
-pub const INTEGER: u8 = 3;
+pub const INTEGER: Tag = 3;
 
 /// A float.
-pub const FLOAT: u8 = 4;
+pub const FLOAT: Tag = 4;
 
 /// A long.
-pub const LONG: u8 = 5;
+pub const LONG: Tag = 5;
 
 /// A double.
-pub const DOUBLE: u8 = 6;
+pub const DOUBLE: Tag = 6;
 
 /// A class, an interface or an array type.
-pub const CLASS: u8 = 7;
+pub const CLASS: Tag = 7;
 
 /// A constant string.
-pub const STRING: u8 = 8;
+pub const STRING: Tag = 8;
 
 /// A field of a class.
-pub const FIELD: u8 = 9;
+pub const FIELD: Tag = 9;
 
 /// A method of a class.
-pub const METHOD: u8 = 10;
+pub const METHOD: Tag = 10;
 
 /// A method of an interface.
-pub const INTERFACE_METHOD: u8 = 11;
+pub const INTERFACE_METHOD: Tag = 11;
 
 /// The name and the descriptor of a member.
-pub const NAME_AND_TYPE: u8 = 12;
+pub const NAME_AND_TYPE: Tag = 12;
 
 /// A method handle.
-pub const METHOD_HANDLE: u8 = 15;
+pub const METHOD_HANDLE: Tag = 15;
 
 /// A method type.
-pub const METHOD_TYPE: u8 = 16;
+pub const METHOD_TYPE: Tag = 16;
 
 /// A call that the program binds while it runs.
-pub const INVOKE_DYNAMIC: u8 = 18;
+pub const INVOKE_DYNAMIC: Tag = 18;

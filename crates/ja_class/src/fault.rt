@@ -4,6 +4,7 @@ ghost use Rattle.ja_class.specs.declared.fault.ClassFault.TheVariants as faults;
 
 use ja_attributes::AttributeFault;
 use ja_base::Memory;
+use ja_base::tag::Tag;
 use ja_bytes::End;
 use ja_code::CodeFault;
 use ja_pool::PoolFault;
@@ -20,7 +21,7 @@ pub enum ClassFault {
     /// A major version that is not from 45 to 52.
     BadVersion { major: u32 },
     /// An entry of the pool whose tag is none.
-    BadTag { at: u64, tag: u8 },
+    BadTag { at: u64, tag: Tag },
     /// A Long or Double at the last index of the pool; `at` is the place of its tag.
     PoolWidth { at: u64 },
     /// A text that is no modified UTF-8; `at` is the place of its first wrong character.

@@ -7,6 +7,7 @@ ghost use Rattle.ja_class.specs.declared.fault.ClassFault.TheVariants.{End};
 ghost use Rattle.ja_class.specs.ClassFault.{index as entry_index};
 
 use crate::ClassFault;
+use ja_base::tag::Tag;
 use ja_bytes::Cursor;
 use ja_pool::Pool;
 
@@ -25,7 +26,7 @@ pub fn u4(c: &mut Cursor<'_>) -> Result<u32, ClassFault>
 }
 
 /// The index of an entry of the pool that has this tag.
-pub fn index(c: &mut Cursor<'_>, pool: &Pool, tag: u8) -> Result<u16, ClassFault>
+pub fn index(c: &mut Cursor<'_>, pool: &Pool, tag: Tag) -> Result<u16, ClassFault>
     ensures reads { Reads (λ n. n) (entry_index pool.now tag) c.old c.new result }
     ensures names { IfOk result (λ i. tag_at pool.now i ≡ tag) }
 {

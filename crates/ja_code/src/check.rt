@@ -11,11 +11,11 @@ use crate::number::RET;
 use crate::opcode::{form_of, is_refused};
 use ja_base::tag::{
     CLASS, DOUBLE, FIELD, FLOAT, INTEGER, INTERFACE_METHOD, LONG, METHOD, METHOD_HANDLE,
-    METHOD_TYPE, STRING,
+    METHOD_TYPE, STRING, Tag,
 };
 
 /// Whether an entry with this tag is what an index must name.
-pub(crate) fn is_named(entry: Entry, tag: u8) -> bool
+pub(crate) fn is_named(entry: Entry, tag: Tag) -> bool
     ensures { result ≡ names entry tag }
 {
     match entry {
@@ -30,7 +30,7 @@ pub(crate) fn is_named(entry: Entry, tag: u8) -> bool
 }
 
 /// The tag of a pool entry, and 0 where there is none.
-pub(crate) fn tag_of(tags: &[u8], index: u16) -> u8
+pub(crate) fn tag_of(tags: &[Tag], index: u16) -> Tag
     ensures { result ≡ tag_at tags.now index }
 {
     tags.get(usize::from(index)).copied().unwrap_or(0)
@@ -71,7 +71,7 @@ fn check_len(pc: u32, bytes: &[u8], len: usize) -> Result<(), CodeFault>
 }
 
 /// Checks what a pool index of the instruction at `pc` names.
-fn check_index(entry: Entry, pc: u32, opcode: u8, tag: u8) -> Result<(), CodeFault>
+fn check_index(entry: Entry, pc: u32, opcode: u8, tag: Tag) -> Result<(), CodeFault>
     ensures { Passes result (first_failing (index_checks entry pc opcode tag)) }
 {
     if entry == Entry::Loadable && matches!(tag, METHOD_HANDLE | METHOD_TYPE) {
@@ -95,7 +95,7 @@ fn check_array_type(pc: u32, bytes: &[u8]) -> Result<(), CodeFault>
 }
 
 /// Checks the array type of `multianewarray` at `pc`, and its number of dimensions.
-fn check_dimensions(pc: u32, bytes: &[u8], tags: &[u8], dims: &[u8]) -> Result<(), CodeFault>
+fn check_dimensions(pc: u32, bytes: &[u8], tags: &[Tag], dims: &[u8]) -> Result<(), CodeFault>
     requires { 4 ≤ length bytes.now }
     ensures { Passes result (first_failing (dimension_checks tags.now dims.now pc bytes.now)) }
 {
@@ -156,7 +156,7 @@ fn check_operands(
     form: Form,
     pc: u32,
     bytes: &[u8],
-    tags: &[u8],
+    tags: &[Tag],
     dims: &[u8],
 ) -> Result<(), CodeFault>
     requires { front_size form pc ≤ length bytes.now }
@@ -186,7 +186,7 @@ fn check_operands(
 pub(crate) fn checked_form(
     pc: u32,
     bytes: &[u8],
-    tags: &[u8],
+    tags: &[Tag],
     dims: &[u8],
 ) -> Result<Form, CodeFault>
     requires { 1 ≤ length bytes.now }

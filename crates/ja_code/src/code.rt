@@ -10,6 +10,7 @@ use crate::branch::check_branches;
 use crate::fault::CodeFault;
 use crate::handler::{RawHandler, RawHandlers, check_handlers};
 use crate::instr::{RawInstrs, instr_at};
+use ja_base::tag::Tag;
 use std::alloc::Global;
 
 /// The instructions of a method in pc order, and its exception table.
@@ -23,7 +24,7 @@ pub struct Code {
 fn instrs_of(
     alloc: Global,
     code: &[u8],
-    tags: &[u8],
+    tags: &[Tag],
     dims: &[u8],
 ) -> Result<(RawInstrs, Vec<bool>), CodeFault>
     requires { length code.now ≤ 65535 }
@@ -48,7 +49,7 @@ fn instrs_of(
 fn checked(
     alloc: Global,
     code: &[u8],
-    tags: &[u8],
+    tags: &[Tag],
     dims: &[u8],
     rows: &[RawHandler],
 ) -> Result<Code, CodeFault>
@@ -73,7 +74,7 @@ fn checked(
 pub fn decode(
     alloc: Global,
     code: &[u8],
-    tags: &[u8],
+    tags: &[Tag],
     dims: &[u8],
     rows: &[RawHandler],
 ) -> Result<Code, CodeFault>

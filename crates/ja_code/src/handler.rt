@@ -8,6 +8,7 @@ use crate::fault::CodeFault;
 use crate::form::Entry;
 use crate::start::is_marked;
 use ja_base::Seq;
+use ja_base::tag::Tag;
 
 /// An entry of an exception table as its bytes have it (JVM specification 4.7.3).
 #[derive(Clone, Copy, PartialEq, Eq, Debug)]
@@ -26,7 +27,7 @@ pub struct RawHandler {
 pub type RawHandlers = Seq<RawHandler>;
 
 /// Whether an entry is right for a code whose starts of instructions are marked.
-fn is_right(row: RawHandler, starts: &[bool], tags: &[u8]) -> bool
+fn is_right(row: RawHandler, starts: &[bool], tags: &[Tag]) -> bool
     ensures { result ≡ is_handler tags.now (marked starts.now) (length starts.now) row }
 {
     row.start < row.end
@@ -40,7 +41,7 @@ fn is_right(row: RawHandler, starts: &[bool], tags: &[u8]) -> bool
 pub(crate) fn check_handlers(
     rows: &[RawHandler],
     starts: &[bool],
-    tags: &[u8],
+    tags: &[Tag],
 ) -> Result<(), CodeFault>
     requires { length rows.now < 2 ^ 32 }
     ensures { Passes result (first_failing (handler_checks tags.now (marked starts.now) (length starts.now) 0 rows.now)) }

@@ -8,6 +8,7 @@ use crate::fault::CodeFault;
 use crate::form::Form;
 use crate::opcode::Opcode;
 use crate::operand::operands_of;
+use ja_base::tag::Tag;
 use ja_base::{Numbers, Seq};
 use std::alloc::Global;
 
@@ -52,7 +53,7 @@ pub(crate) fn instr_at(
     alloc: Global,
     pc: u32,
     bytes: &[u8],
-    tags: &[u8],
+    tags: &[Tag],
     dims: &[u8],
 ) -> Result<RawInstr, CodeFault>
     requires there { 1 ≤ length bytes.now }

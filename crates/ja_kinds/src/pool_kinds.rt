@@ -5,7 +5,7 @@ ghost use Rattle.ja_code.specs.Grammar.{operand_at};
 ghost use Rattle.ja_kinds.specs.InnerReading.{FindsField, FindsMethod};
 
 use crate::state::KindList;
-use ja_base::tag::{CLASS, FIELD, FLOAT, INTEGER, INTERFACE_METHOD, METHOD, STRING};
+use ja_base::tag::{CLASS, FIELD, FLOAT, INTEGER, INTERFACE_METHOD, METHOD, STRING, Tag};
 use ja_base::{JavaType, JavaTypes, Kind, Memory};
 use ja_bytes::{DescFault, field_desc, method_desc};
 use ja_code::RawInstr;
@@ -20,7 +20,7 @@ pub(crate) struct MethodKinds {
 }
 
 /// The tag of the entry that an instruction names, 0 where it names none.
-pub fn tag_named(pool: &Pool, instr: &RawInstr) -> u8
+pub fn tag_named(pool: &Pool, instr: &RawInstr) -> Tag
     ensures { result ≡ tag_named pool.now instr.now }
 {
     let index = instr.operand(0);
@@ -32,14 +32,14 @@ pub fn tag_named(pool: &Pool, instr: &RawInstr) -> u8
 }
 
 /// Whether a tag is that of a member.
-fn is_member_tag(tag: u8) -> bool
+fn is_member_tag(tag: Tag) -> bool
     ensures { result ≡ is_member_tag tag }
 {
     tag == FIELD || tag == METHOD || tag == INTERFACE_METHOD
 }
 
 /// The kind of a constant with this tag, where `ldc` takes it.
-pub(crate) fn constant_kind(tag: u8) -> Option<Kind>
+pub(crate) fn constant_kind(tag: Tag) -> Option<Kind>
     ensures { result ≡ constant_kind tag }
 {
     match tag {

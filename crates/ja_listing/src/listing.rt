@@ -24,7 +24,7 @@ impl Model for Listing {
 }
 
 impl Listing {
-    ghost use Rattle.std.specs.Prelude.{◌≡◌, ◌++◌, ◌∷◌, [], OnOk};
+    ghost use Rattle.std.specs.Prelude.{◌≡◌, ◌++◌, ◌∷◌, [], OnOk, OnErr};
 
     /// A class that an item with this number begins, with no other item so far. It takes no memory.
     pub fn new(alloc: Global, number: u64, head: Head) -> Listing
@@ -37,9 +37,10 @@ impl Listing {
         }
     }
 
-    /// Adds an item behind the others. An error is want of memory; the class is then as it was before, or has the item.
+    /// Adds an item behind the others. After `Memory` the class is unchanged.
     pub fn push(&mut self, item: Item) -> Result<(), Memory>
-        ensures { OnOk result (self.new ≡ record { number = self.old.number; head = self.old.head; items = self.old.items ++ item ∷ [] }) }
+        ensures ok { OnOk result (self.new ≡ record { number = self.old.number; head = self.old.head; items = self.old.items ++ item ∷ [] }) }
+        ensures err { OnErr result (self.new ≡ self.old) }
     {
         self.items.push(item)
     }

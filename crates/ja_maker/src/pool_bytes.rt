@@ -9,7 +9,7 @@ ghost use Rattle.ja_maker.specs.InnerWriting.{pool_in, IsFew};
 
 use crate::put::{put_bytes, put_u1, put_u2};
 use ja_assembly::Key;
-use ja_base::tag::{CLASS, NAME_AND_TYPE, STRING, UTF8};
+use ja_base::tag::{CLASS, NAME_AND_TYPE, STRING, Tag, UTF8};
 use ja_base::{Bytes, Memory, Name};
 use ja_listing::MemberName;
 use ja_writable::Wants;
@@ -68,7 +68,7 @@ fn pair_index(alloc: Global, pool: &Wants, name: &Name, desc: &Name) -> Result<u
 pub(crate) fn member_index(
     alloc: Global,
     pool: &Wants,
-    tag: u8,
+    tag: Tag,
     member: &MemberName,
 ) -> Result<u64, Memory>
     requires { IsFew pool.now }
@@ -82,7 +82,7 @@ pub(crate) fn member_index(
 }
 
 /// A tag and an index.
-fn put_single(out: &mut Bytes, tag: u8, index: u64) -> Result<(), Memory>
+fn put_single(out: &mut Bytes, tag: Tag, index: u64) -> Result<(), Memory>
     ensures { OnOk result (out.new ≡ out.old ++ spelling (single tag index)) }
 {
     put_u1(out, u64::from(tag))?;
@@ -137,7 +137,7 @@ fn put_text(out: &mut Bytes, text: &Name) -> Result<(), Memory>
 }
 
 /// A tag and two indices.
-fn put_pair(out: &mut Bytes, tag: u8, first: u64, second: u64) -> Result<(), Memory>
+fn put_pair(out: &mut Bytes, tag: Tag, first: u64, second: u64) -> Result<(), Memory>
     ensures { OnOk result (out.new ≡ out.old ++ spelling (pair tag first second)) }
 {
     put_u1(out, u64::from(tag))?;

@@ -19,7 +19,7 @@ use crate::field::{get_field, get_static, put_field, put_static};
 use crate::member::{class_named, member_named};
 use crate::shuffle::shuffle_after;
 use crate::token::{library_token, token_of_array, token_of_class, token_of_innermost};
-use ja_base::tag::{CLASS, STRING};
+use ja_base::tag::{CLASS, STRING, Tag};
 use ja_base::{ClassId, Kind, Name};
 use ja_code::{
     Behaviour, Elements, FieldAccess, Invocation, Operands, RawInstr, Rearrangement, Source,
@@ -53,7 +53,7 @@ fn local_of(source: Source, instr: &RawInstr) -> u32
 }
 
 /// What loads a constant with this tag.
-fn loaded(hier: &Hier, tag: u8) -> Op
+fn loaded(hier: &Hier, tag: Tag) -> Op
     requires { length hier.now ≤ max_numbered }
     ensures { result ≡ loaded hier.now tag }
 {

@@ -7,10 +7,10 @@ ghost use Rattle.ja_pool.specs.InnerSlot.{slot_fields, wrong_place};
 
 use crate::look::byte_at;
 use crate::slot::{Form, Slot};
-use ja_base::tag::{CLASS, INVOKE_DYNAMIC, NAME_AND_TYPE, UTF8};
+use ja_base::tag::{CLASS, INVOKE_DYNAMIC, NAME_AND_TYPE, Tag, UTF8};
 
 /// Whether an index does not name an entry with the tag that is wanted, or any where none is.
-fn is_wrong_index(tags: &[u8], index: u16, wants: Option<u8>) -> bool
+fn is_wrong_index(tags: &[Tag], index: u16, wants: Option<u8>) -> bool
     ensures { result ≡ not (is_wanted wants (slice_index tags.now index)) }
 {
     let tag = byte_at(tags, u32::from(index));
@@ -21,7 +21,7 @@ fn is_wrong_index(tags: &[u8], index: u16, wants: Option<u8>) -> bool
 }
 
 /// The place of the first of two index fields behind a tag that is wrong.
-fn wrong_of_two(tags: &[u8], place: u64, first: (u16, u8), second: (u16, u8)) -> Option<u64>
+fn wrong_of_two(tags: &[Tag], place: u64, first: (u16, u8), second: (u16, u8)) -> Option<u64>
     requires { place + 3 < 2 ^ 64 }
     ensures { result ≡ wrong_place tags.now (record { place = place + 1; index = first.0; wants = Some first.1 } ∷ record { place = place + 3; index = second.0; wants = Some second.1 } ∷ []) }
 {
@@ -35,7 +35,7 @@ fn wrong_of_two(tags: &[u8], place: u64, first: (u16, u8), second: (u16, u8)) ->
 }
 
 /// The place of the first wrong index field of an entry of two indices.
-fn wrong_in_pair(tags: &[u8], place: u64, tag: u8, first: u16, second: u16) -> Option<u64>
+fn wrong_in_pair(tags: &[Tag], place: u64, tag: Tag, first: u16, second: u16) -> Option<u64>
     requires { place + 3 < 2 ^ 64 }
     ensures { result ≡ wrong_place tags.now (pair_fields place tag first second) }
 {
@@ -53,7 +53,7 @@ fn wrong_in_pair(tags: &[u8], place: u64, tag: u8, first: u16, second: u16) -> O
 }
 
 /// The place of the first wrong index field of an entry.
-fn wrong_in(tags: &[u8], slot: Slot) -> Option<u64>
+fn wrong_in(tags: &[Tag], slot: Slot) -> Option<u64>
     requires { slot.place + 3 < 2 ^ 64 }
     ensures { result ≡ wrong_place tags.now (slot_fields slot) }
 {
@@ -82,7 +82,7 @@ fn wrong_in(tags: &[u8], slot: Slot) -> Option<u64>
 }
 
 /// The place of the first wrong index field, in the order of the entries.
-pub fn first_wrong(tags: &[u8], slots: &[Slot]) -> Option<u64>
+pub fn first_wrong(tags: &[Tag], slots: &[Slot]) -> Option<u64>
     requires { All (λ slot. slot.place + 3 < 2 ^ 64) slots.now }
     ensures { result ≡ wrong_place tags.now (flat_map slot_fields slots.now) }
 {

@@ -1,10 +1,13 @@
 /// Why bytes are not read as a constant pool. `at` is an offset in the file.
+
+use ja_base::tag::Tag;
+
 #[derive(Clone, Copy, PartialEq, Eq, Debug)]
 pub enum PoolFault {
     /// The file ends inside the field that begins at `at`.
     End { at: u64 },
     /// An entry whose tag is none.
-    BadTag { at: u64, tag: u8 },
+    BadTag { at: u64, tag: Tag },
     /// A Long or Double at the last index; `at` is the place of its tag.
     PoolWidth { at: u64 },
     /// A text that is no modified UTF-8; `at` is the place of its first wrong character.

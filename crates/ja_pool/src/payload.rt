@@ -8,10 +8,11 @@ ghost use Rattle.ja_pool.specs.InnerShape.{HasShape, ReadsPayload, IsPayloadFaul
 use crate::PoolFault;
 use crate::shape::Shape;
 use crate::slot::Form;
+use ja_base::tag::Tag;
 use ja_bytes::{Cursor, modified_utf8};
 
 /// A text. Its place is held as an offset from `base`.
-fn text(c: &mut Cursor<'_>, tag: u8, base: u64) -> Result<Form, PoolFault>
+fn text(c: &mut Cursor<'_>, tag: Tag, base: u64) -> Result<Form, PoolFault>
     requires shape { tag ≡ pool_tag.utf8 }
     requires behind { base + 1 ≤ c.old.place }
     ensures ok { IfOk result (ReadsPayload c.old c.new tag base) }
@@ -38,7 +39,7 @@ fn text(c: &mut Cursor<'_>, tag: u8, base: u64) -> Result<Form, PoolFault>
 }
 
 /// A number of four bytes.
-fn number(c: &mut Cursor<'_>, tag: u8, base: u64) -> Result<Form, PoolFault>
+fn number(c: &mut Cursor<'_>, tag: Tag, base: u64) -> Result<Form, PoolFault>
     requires shape { HasShape tag Shape.Number }
     ensures ok { IfOk result (ReadsPayload c.old c.new tag base) }
     ensures fault { IfErr result (IsPayloadFault c.old.place tag c.old.rest) }
@@ -58,7 +59,7 @@ fn number_of(b: &[u8]) -> u64
 }
 
 /// A number of eight bytes, which are one field.
-fn wide(c: &mut Cursor<'_>, tag: u8, base: u64) -> Result<Form, PoolFault>
+fn wide(c: &mut Cursor<'_>, tag: Tag, base: u64) -> Result<Form, PoolFault>
     requires shape { HasShape tag Shape.Wide }
     ensures ok { IfOk result (ReadsPayload c.old c.new tag base) }
     ensures fault { IfErr result (IsPayloadFault c.old.place tag c.old.rest) }
@@ -73,7 +74,7 @@ fn wide(c: &mut Cursor<'_>, tag: u8, base: u64) -> Result<Form, PoolFault>
 }
 
 /// An index.
-fn single(c: &mut Cursor<'_>, tag: u8, base: u64) -> Result<Form, PoolFault>
+fn single(c: &mut Cursor<'_>, tag: Tag, base: u64) -> Result<Form, PoolFault>
     requires shape { HasShape tag Shape.Single }
     ensures ok { IfOk result (ReadsPayload c.old c.new tag base) }
     ensures fault { IfErr result (IsPayloadFault c.old.place tag c.old.rest) }
@@ -85,7 +86,7 @@ fn single(c: &mut Cursor<'_>, tag: u8, base: u64) -> Result<Form, PoolFault>
 }
 
 /// Two indices.
-fn pair(c: &mut Cursor<'_>, tag: u8, base: u64) -> Result<Form, PoolFault>
+fn pair(c: &mut Cursor<'_>, tag: Tag, base: u64) -> Result<Form, PoolFault>
     requires shape { HasShape tag Shape.Pair }
     ensures ok { IfOk result (ReadsPayload c.old c.new tag base) }
     ensures fault { IfErr result (IsPayloadFault c.old.place tag c.old.rest) }
@@ -101,7 +102,7 @@ fn pair(c: &mut Cursor<'_>, tag: u8, base: u64) -> Result<Form, PoolFault>
 }
 
 /// The kind of a method handle and an index.
-fn handle(c: &mut Cursor<'_>, tag: u8, base: u64) -> Result<Form, PoolFault>
+fn handle(c: &mut Cursor<'_>, tag: Tag, base: u64) -> Result<Form, PoolFault>
     requires shape { tag ≡ pool_tag.method_handle }
     ensures ok { IfOk result (ReadsPayload c.old c.new tag base) }
     ensures fault { IfErr result (IsPayloadFault c.old.place tag c.old.rest) }
@@ -117,7 +118,7 @@ fn handle(c: &mut Cursor<'_>, tag: u8, base: u64) -> Result<Form, PoolFault>
 }
 
 /// What stands behind a tag of this form. The place of a text is held as an offset from `base`.
-pub fn payload(c: &mut Cursor<'_>, shape: Shape, tag: u8, base: u64) -> Result<Form, PoolFault>
+pub fn payload(c: &mut Cursor<'_>, shape: Shape, tag: Tag, base: u64) -> Result<Form, PoolFault>
     requires shape { HasShape tag shape }
     requires behind { base + 1 ≤ c.old.place }
     ensures ok { IfOk result (ReadsPayload c.old c.new tag base) }

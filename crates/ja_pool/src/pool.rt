@@ -5,6 +5,7 @@ use crate::constant::{Constant, Member};
 use crate::look::{all_dims, byte_at, class_in, constant_in, member_in, slot_at, text_in};
 use crate::slot::Slot;
 use ja_base::Memory;
+use ja_base::tag::Tag;
 use std::alloc::Global;
 use std::marker::Model;
 
@@ -79,7 +80,7 @@ impl Pool {
     }
 
     /// The tag at an index, 0 where nothing stands.
-    pub fn tag(&self, i: u32) -> u8
+    pub fn tag(&self, i: u32) -> Tag
         ensures { result ≡ tag_at self.now i }
     {
         byte_at(self.tags.as_slice(), i)

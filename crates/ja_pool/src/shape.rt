@@ -4,7 +4,7 @@ ghost use Rattle.ja_pool.specs.InnerShape.{HasShape, is_wide_shape};
 
 use ja_base::tag::{
     CLASS, DOUBLE, FIELD, FLOAT, INTEGER, INTERFACE_METHOD, INVOKE_DYNAMIC, LONG, METHOD,
-    METHOD_HANDLE, METHOD_TYPE, NAME_AND_TYPE, STRING, UTF8,
+    METHOD_HANDLE, METHOD_TYPE, NAME_AND_TYPE, STRING, Tag, UTF8,
 };
 
 /// The form of the entries with a tag.
@@ -25,7 +25,7 @@ pub enum Shape {
 }
 
 /// The form of the entries with this tag (JVM specification 4.4).
-pub fn shape_of(tag: u8) -> Option<Shape>
+pub fn shape_of(tag: Tag) -> Option<Shape>
     ensures some { IfSome result (HasShape tag) }
     ensures none { IfNone result (is_tag tag ≡ false) }
 {

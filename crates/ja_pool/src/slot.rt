@@ -1,7 +1,7 @@
 ghost use Rattle.std.specs.Prelude.{◌≡◌, ◌∷◌, ◌++◌, OnOk};
 ghost use Rattle.ja_pool.specs.InnerSlot.{form_tag, form_first, form_second, form_pad};
 
-use ja_base::tag::{METHOD_HANDLE, UTF8};
+use ja_base::tag::{METHOD_HANDLE, Tag, UTF8};
 use std::alloc::AllocError;
 
 /// What stands at an index of the pool. A text is named by its place among the pool's bytes.
@@ -9,10 +9,10 @@ use std::alloc::AllocError;
 pub enum Form {
     Unusable,
     Utf8 { from: u64, len: u16 },
-    Number { tag: u8, bits: u32 },
-    Wide { tag: u8, bits: u64 },
-    Single { tag: u8, index: u16 },
-    Pair { tag: u8, first: u16, second: u16 },
+    Number { tag: Tag, bits: u32 },
+    Wide { tag: Tag, bits: u64 },
+    Single { tag: Tag, index: u16 },
+    Pair { tag: Tag, first: u16, second: u16 },
     Handle { kind: u8, index: u16 },
 }
 
@@ -31,7 +31,7 @@ pub const NOTHING: Slot = Slot {
 
 impl Form {
     /// The tag, 0 where nothing stands.
-    pub fn tag(self) -> u8
+    pub fn tag(self) -> Tag
         ensures { result ≡ form_tag self }
     {
         match self {

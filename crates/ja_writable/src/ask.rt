@@ -8,7 +8,7 @@ ghost use Rattle.ja_writable.specs.InnerJudging.{Asks};
 
 use indexmap::IndexSet;
 use ja_assembly::{Key, constructor_of, method_tag};
-use ja_base::tag::{FIELD, METHOD};
+use ja_base::tag::{FIELD, METHOD, Tag};
 use ja_base::{Memory, Name};
 use ja_code::Opcode;
 use ja_listing::{Frame, Head, Item, MemberName, Operand};
@@ -41,7 +41,7 @@ fn ask_class(alloc: Global, keys: &mut IndexSet<Key>, name: &Name) -> Result<(),
 fn ask_member(
     alloc: Global,
     keys: &mut IndexSet<Key>,
-    tag: u8,
+    tag: Tag,
     member: &MemberName,
 ) -> Result<(), Memory>
     ensures { OnOk result (Asks keys.old.keys keys.new.keys (member_keys tag member.now)) }

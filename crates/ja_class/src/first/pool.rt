@@ -6,12 +6,12 @@ ghost use Rattle.ja_class.specs.InnerViews.{entry_view, entries};
 
 use super::bytes::{short_text, u16_at, u16_pair};
 use super::{Constant, FirstFault};
-use ja_base::tag::{CLASS, METHOD, NAME_AND_TYPE, STRING, UTF8};
+use ja_base::tag::{CLASS, METHOD, NAME_AND_TYPE, STRING, Tag, UTF8};
 use std::alloc::Global;
 
 /// The entry behind its tag, and the bytes after it.
 #[tactic(auto, unfolding(crate::specs::InnerReading::tagged_at))]
-fn tagged(tag: u8, bytes: &[u8]) -> Result<(Constant<'_>, &[u8]), FirstFault>
+fn tagged(tag: Tag, bytes: &[u8]) -> Result<(Constant<'_>, &[u8]), FirstFault>
     ensures { Gives (λ x. (entry_view x.0, x.1.now)) result (tagged_at tag bytes.now) }
 {
     match tag {
