@@ -30,6 +30,9 @@ pub const JSR: u8 = 168;
 /// Returns from a subroutine.
 pub const RET: u8 = 169;
 
+/// Ends a method with a reference.
+pub const ARETURN: u8 = 176;
+
 /// Ends a method without a value.
 pub const RETURN: u8 = 177;
 

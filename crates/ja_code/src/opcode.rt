@@ -5,7 +5,9 @@ ghost use Rattle.ja_code.specs.Behaviour.{behaviour_at};
 
 use crate::behaviour::Behaviour;
 use crate::form::Form;
-use crate::number::{ALOAD_0, INVOKEDYNAMIC, INVOKESPECIAL, JSR, JSR_W, RET, RETURN};
+use crate::number::{
+    ALOAD_0, ARETURN, INVOKEDYNAMIC, INVOKESPECIAL, INVOKESTATIC, JSR, JSR_W, LDC, RET, RETURN,
+};
 use crate::table::{OPCODES, Row};
 use std::marker::Model;
 
@@ -72,9 +74,17 @@ fn opcode_in(place: usize) -> Opcode
 impl Opcode {
     pub const ALOAD_0: Opcode = Opcode { number: ALOAD_0 };
 
+    pub const ARETURN: Opcode = Opcode { number: ARETURN };
+
     pub const INVOKESPECIAL: Opcode = Opcode {
         number: INVOKESPECIAL,
     };
+
+    pub const INVOKESTATIC: Opcode = Opcode {
+        number: INVOKESTATIC,
+    };
+
+    pub const LDC: Opcode = Opcode { number: LDC };
 
     pub const RETURN: Opcode = Opcode { number: RETURN };
 
