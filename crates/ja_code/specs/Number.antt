@@ -39,6 +39,10 @@ jsr = 168
 abbrev pub ret : ℕ
 ret = 169
 
+-- ends a method with a reference
+abbrev pub areturn : ℕ
+areturn = 176
+
 -- ends a method without a value
 abbrev pub return : ℕ
 return = 177

@@ -27,7 +27,7 @@ impl Listing {
     ghost use Rattle.std.specs.Prelude.{◌≡◌, ◌++◌, ◌∷◌, [], OnOk, OnErr};
 
     /// A class that an item with this number begins, with no other item so far. It takes no memory.
-    pub fn new(alloc: Global, number: u64, head: Head) -> Listing
+    pub(crate) fn new(alloc: Global, number: u64, head: Head) -> Listing
         ensures { result ≡ record { number = number; head = head; items = [] } }
     {
         Listing {
@@ -38,11 +38,22 @@ impl Listing {
     }
 
     /// Adds an item behind the others. After `Memory` the class is unchanged.
-    pub fn push(&mut self, item: Item) -> Result<(), Memory>
+    pub(crate) fn push(&mut self, item: Item) -> Result<(), Memory>
         ensures ok { OnOk result (self.new ≡ record { number = self.old.number; head = self.old.head; items = self.old.items ++ item ∷ [] }) }
         ensures err { OnErr result (self.new ≡ self.old) }
     {
         self.items.push(item)
+    }
+
+    /// A class with these items, of which the one that begins it has this number.
+    pub fn of(number: u64, head: Head, items: Items) -> Listing
+        ensures { result ≡ record { number = number; head = head; items = items } }
+    {
+        Listing {
+            number,
+            head,
+            items,
+        }
     }
 
     /// The number of the item that begins the class, counted from 0 among the items of the text.
