@@ -1,0 +1,5 @@
+pub mod Texts
+pub mod Descriptors
+pub mod Standing
+pub mod Few
+pub mod Writable

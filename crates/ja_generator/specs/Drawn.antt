@@ -1,5 +1,5 @@
 -- The numbers that the generator draws, and the names that it gives.
-use Rattle.std.specs.Prelude.{ℕ, ◌+◌, ◌*◌, ◌/◌, ◌%◌, suc, List, [], ◌∷◌, ◌++◌, codes}
+use Rattle.std.specs.Prelude.{ℕ, zero, suc, ◌+◌, ◌*◌, ◌/◌, ◌%◌, List, [], ◌∷◌, ◌++◌, codes}
 
 -- the number that is drawn after another
 abbrev pub drawn_after : ℕ → ℕ
@@ -7,7 +7,7 @@ drawn_after x = (x * 75 + 74) % 65537
 
 -- the number that is drawn first from the user's, and then one for each class before this one
 abbrev pub drawn : (number i : ℕ) → ℕ
-drawn number 0 = number % 65537
+drawn number zero = number % 65537
 drawn number (suc i) = drawn_after (drawn number i)
 
 -- the number of class i, by which the body of its `f` goes

@@ -1,5 +1,5 @@
 -- The classes that the generator makes.
-use Rattle.std.specs.Prelude.{ℕ, ◌/◌, ◌%◌, suc, List, [], ◌∷◌, ◌++◌, codes, Some}
+use Rattle.std.specs.Prelude.{ℕ, zero, suc, ◌/◌, ◌%◌, List, [], ◌∷◌, ◌++◌, codes, Some, ◌==◌, if◌then◌else◌}
 use Rattle.ja_base.specs.declared.file.File.{File}
 use Rattle.ja_code.specs.Number.{aload_0, return, areturn, invokestatic, ldc}
 use Rattle.ja_class.specs.ClassFile.{spelling}
@@ -46,15 +46,16 @@ from_source = call (of_taint (codes "source") (codes "()Ljava/lang/String;")) �
 
 -- an earlier class than class i, by the number x; the first class has none
 abbrev pub passed_to_earlier : (x i : ℕ) → List Item
-passed_to_earlier x 0 = argument_itself
+passed_to_earlier x zero = argument_itself
 passed_to_earlier x (suc i) = passed_to (f_of (class_name (x / 4 % suc i)))
 
 -- the body of the `f` of class i, by a shape and the number x
 abbrev pub body_by : (shape x i : ℕ) → List Item
-body_by 0 x i = argument_itself
-body_by 1 x i = passed_to (of_taint (codes "copy") text_to_text)
-body_by 2 x i = passed_to_earlier x i
-body_by _ x i = from_source
+body_by shape x i =
+    if shape == 0 then argument_itself
+    else (if shape == 1 then passed_to (of_taint (codes "copy") text_to_text)
+    else (if shape == 2 then passed_to_earlier x i
+    else from_source))
 
 -- `main` passes what `f` makes of a text to the sink
 abbrev pub main_of : (class : List ℕ) → List Item
@@ -83,5 +84,5 @@ file_by x i = record { name = file_name i; bytes = spelling (file_of (class_by x
 
 -- the files of the first so many classes, in order
 abbrev pub made_files : (number classes : ℕ) → List File
-made_files number 0 = []
+made_files number zero = []
 made_files number (suc n) = made_files number n ++ file_by (number_of number n) n ∷ []
