@@ -16,7 +16,6 @@ ghost use Rattle.ja_facts.specs.ClassTables.{ClassTable, empty_classes};
 ghost use Rattle.ja_facts.specs.FactTables.{GraphTable, HeldTable, empty_graph, empty_held, empty_pairs, empty_effects, empty_reach};
 ghost use Rattle.ja_facts.specs.Told.{TellsSets, TellsGraph, TellsHeld, TellsHeap, TellsReach, IsKeptSets, IsKeptGraph, IsKeptReach};
 ghost use Rattle.ja_ir.specs.declared.entry.Entry.{Entry};
-ghost use Rattle.ja_ir.specs.declared.entry.Site.{Site};
 ghost use Rattle.ja_facts.specs.MarkedPositions.{MarkMorePositions, with_entries};
 ghost use Rattle.ja_facts.specs.Equations.{Fact, Rule, Rules, Taints, Context, At, Stored, Threw, Normal, IsWarned};
 ghost use Rattle.ja_facts.specs.Example.{example, nothing, example_site, only_lowest, clean_return, tainted_throw};
