@@ -3,13 +3,17 @@ use Rattle.std.proofs.Common.{◌≡◌, ℕ, ◌+◌, ◌<◌, Bool, true, fals
 use Rattle.std.specs.Prelude.{◌&&◌}
 use Rattle.ja_ir.specs.declared.program.Parts.{Parts}
 use Rattle.ja_ir.specs.declared.method.Method.{Method}
+use Rattle.ja_ir.specs.declared.op.Op.{Op}
+use Rattle.ja_ir.specs.Lookup.{OpAt}
 use Rattle.ja_bdd.specs.Functions.{Function, IsAimed}
 use Rattle.ja_facts.specs.Analyses.{Analyses}
 use Rattle.ja_work.specs.declared.clause.Spot.{Spot}
 use Rattle.ja_work.specs.declared.clause.Clause.{Clause}
 use Rattle.ja_work.specs.declared.frame.Frame.{Frame}
 use Rattle.ja_work.specs.Frames.{size, spot_at, clause_function, clauses_from}
-use Rattle.ja_work.specs.Work.{IsSet, IsRule, Saying, Says, IsMethod, some_of, IsClauses, one_clause, rest_of_rule, IsPiece, literal, everything, placed, one_literal, IsWork, product, piece, IsWorkTree}
+use Rattle.ja_work.specs.Ends.{Tests, AreTests}
+use Rattle.ja_work.specs.Thrown.{ends_thrown}
+use Rattle.ja_work.specs.Work.{IsSet, IsRule, Saying, Says, IsMethod, some_of, IsClauses, one_clause, rest_of_rule, whole_exceptional, IsPiece, literal, everything, placed, one_literal, IsWork, product, piece, IsWorkTree}
 
 module _ (p : Parts) (A : Analyses) (frames : List Frame) where
   -- a function of the work is of its aim
@@ -69,3 +73,8 @@ module _ (p : Parts) (A : Analyses) (frames : List Frame) where
 
     pub piece_work : (place : ℕ) (φ : Function) → place < size frame → IsPiece frame (clauses (spot_at frame place)) (spot_at frame place) φ → IsWork p A frames φ
     piece_work place φ lt part = piece φ place is rule lt part
+
+  -- a whole exceptional end is work
+  pub thrown_work : (m i height : ℕ) (method : Method) (frame : Frame) (tests : Tests) (op : Op) → IsMethod p A frames m method frame → OpAt p m i op height → AreTests A m i tests
+      → IsWork p A frames (ends_thrown frame tests op height)
+  thrown_work m i height method frame tests op is at are = clauses_work (ends_thrown frame tests op height) (whole_exceptional tests is at are)

@@ -29,6 +29,7 @@ use Rattle.ja_work.specs.declared.frame.Frame.{Frame}
 use Rattle.ja_work.specs.Clauses.{never, moved}
 use Rattle.ja_work.specs.Ends.{Tests, AreTests, may_go_on, normal_clauses, may_end, exceptional_clauses, AreAffected, return_clauses, throw_clauses, caught_clauses, summary_of}
 use Rattle.ja_work.specs.Frames.{size, spot_at, variable, read, clause_function, clauses_from}
+use Rattle.ja_work.specs.Thrown.{ends_thrown}
 
 -- the local is the first one of a parameter of the method
 abbrev pub is_param : Method → ℕ → Bool
@@ -138,12 +139,14 @@ module _ (p : Parts) (A : Analyses) where
     pub data IsSome : Function → Type 0 where
       some_of : {m : ℕ} {method : Method} {frame : Frame} (saying : Saying) (φ : Function) → IsMethod m method frame → IsSet method frame (Says m saying) φ → IsSome φ
 
-    -- one clause of a rule, or those from some place on
+    -- one clause of a rule, those from some place on, or a whole exceptional end
     pub data IsClauses : Function → Type 0 where
       one_clause : {m i : ℕ} {method : Method} {frame : Frame} {clauses : Spot → Clause} (place : ℕ) → IsMethod m method frame → IsRule m i clauses → place < size frame
           → IsClauses (clause_function frame (clauses (spot_at frame place)) (spot_at frame place))
       rest_of_rule : {m i : ℕ} {method : Method} {frame : Frame} {clauses : Spot → Clause} (place count : ℕ) → IsMethod m method frame → IsRule m i clauses → place + count ≡ size frame
           → IsClauses (clauses_from frame clauses place count)
+      whole_exceptional : {m i height : ℕ} {method : Method} {frame : Frame} {op : Op} (tests : Tests) → IsMethod m method frame → OpAt p m i op height → AreTests A m i tests
+          → IsClauses (ends_thrown frame tests op height)
 
 -- the value of a variable, or its negation
 abbrev pub signed : (positive value : Bool) → Bool
