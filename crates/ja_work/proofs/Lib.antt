@@ -9,3 +9,4 @@ pub mod Framing
 pub mod Outside
 pub mod Summing
 pub mod Working
+mod Empty

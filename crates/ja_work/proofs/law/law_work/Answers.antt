@@ -9,7 +9,7 @@ pub returns-clause-facts : goal.returns-clause-facts
 returns-clause-facts c p f frames m method frame saying φ is set = work_aimed p (told p f) frames φ (facts_work p (told p f) frames m method frame saying φ is set)
 
 pub returns-clause-literals : goal.returns-clause-literals
-returns-clause-literals c p f frames v positive = work_aimed p (told p f) frames (literal v positive) (literal_work p (told p f) frames v positive)
+returns-clause-literals c p f frames v positive is = work_aimed p (told p f) frames (literal v positive) (literal_work p (told p f) frames v positive is)
 
 pub returns-clause-rules : goal.returns-clause-rules
 returns-clause-rules c p f frames m i method frame clauses place count is rule e =
