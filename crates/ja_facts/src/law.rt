@@ -1,4 +1,4 @@
-ghost use Rattle.std.specs.Prelude.{◌≡◌, ◌++◌, [], ◌∷◌, List, Bool, true, false, ℕ, suc, ◌↔◌, IsTrue, codes};
+ghost use Rattle.std.specs.Prelude.{◌≡◌, ◌++◌, [], ◌∷◌, List, Bool, true, false, ℕ, suc, ◌↔◌, IsTrue, codes, map};
 ghost use Rattle.ja_base.specs.declared.java_type.Kind.{Kind};
 ghost use Rattle.ja_ir.specs.declared.program.Parts.{Parts};
 ghost use Rattle.ja_ir.specs.declared.op.Op.TheVariants.{Load};
@@ -16,7 +16,6 @@ ghost use Rattle.ja_facts.specs.ClassTables.{ClassTable, empty_classes};
 ghost use Rattle.ja_facts.specs.FactTables.{GraphTable, HeldTable, empty_graph, empty_held, empty_pairs, empty_effects, empty_reach};
 ghost use Rattle.ja_facts.specs.Told.{TellsSets, TellsGraph, TellsHeld, TellsHeap, TellsReach, IsKeptSets, IsKeptGraph, IsKeptReach};
 ghost use Rattle.ja_ir.specs.declared.entry.Entry.{Entry};
-ghost use Rattle.ja_ir.specs.declared.entry.Site.{Site};
 ghost use Rattle.ja_facts.specs.MarkedPositions.{MarkMorePositions, with_entries};
 ghost use Rattle.ja_facts.specs.Equations.{Fact, Rule, Rules, Taints, Context, At, Stored, Threw, Normal, IsWarned};
 ghost use Rattle.ja_facts.specs.Example.{example, nothing, example_site, only_lowest, clean_return, tainted_throw};
@@ -42,11 +41,14 @@ pub fn law_least_is_below()
     ensures equations { (p : Parts) (c : ℕ) (set : Fact → Bool) → IsSolution (Rules p c) (λ f. IsTrue (set f)) → (f : Fact) → Taints p c f → IsTrue (set f) }
 {}
 
-/// A report of a program without sites is that without their lines, and a name of a letter, a blank
-/// and a backslash prints so.
+/// A report of a program without sites is that without their lines.
 pub fn law_report_without_sites()
-    ensures none { (p : Parts) (flags : List Bool) → p.sites ≡ [] → report_text p flags ≡ total_text p flags }
-    ensures printed { printed (codes "a \\") ≡ codes "a\\x20\\x5c" }
+    ensures { (p : Parts) (flags : List Bool) → p.sites ≡ [] → report_text p flags ≡ total_text p flags }
+{}
+
+/// A name of a letter, a blank and a backslash prints so.
+pub fn law_name_prints()
+    ensures { printed (codes "a \\") ≡ codes "a\\x20\\x5c" }
 {}
 
 /// In the small program, the equations give the entry's context, the tainted text that its source
@@ -109,8 +111,7 @@ pub fn law_tables_tell_kept()
     ensures reach { (p : Parts) (reach : List (List (List (List Bool)))) (f : ReachFact) → TellsReach p reach f → IsKeptReach f }
 {}
 
-/// Where no fact holds no site is warned: flags that are all false are the verdicts of a program whose
-/// sites are one.
+/// Where no fact holds no site is warned: the verdicts are flags that are all false.
 pub fn law_nothing_warns()
-    ensures { (p : Parts) (site : Site) → p.sites ≡ site ∷ [] → AreVerdicts p (λ c f. ⊥) (false ∷ []) }
+    ensures { (p : Parts) → AreVerdicts p (λ c f. ⊥) (map (λ site. false) p.sites) }
 {}

@@ -10,8 +10,6 @@ mod mem_out;
 mod name_text;
 mod out;
 mod std_out;
-#[cfg(test)]
-mod tests;
 mod walk;
 
 pub use dir_folder::DirFolder;

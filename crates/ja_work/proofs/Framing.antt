@@ -51,7 +51,7 @@ read_inside frame copy a (OnStack k) e = ap (λ c. c && a (variable frame (OnSta
 read_inside frame copy a Dirt e = refl
 read_inside frame copy a Exc e = refl
 
-read_outside : (frame : Frame) (copy : ℕ) (a : Variables) (s : Spot) → is_inside frame s ≡ false → value (read frame copy a) s ≡ false
+pub read_outside : (frame : Frame) (copy : ℕ) (a : Variables) (s : Spot) → is_inside frame s ≡ false → value (read frame copy a) s ≡ false
 read_outside frame copy a (Local l) e = ap (λ c. c && a (variable frame (Local l) copy)) e
 read_outside frame copy a (OnStack k) e = ap (λ c. c && a (variable frame (OnStack k) copy)) e
 read_outside frame copy a Dirt e = absurd (cc e)

@@ -6,4 +6,7 @@ pub mod OtherEnds
 pub mod WholeEnds
 pub mod Telling
 pub mod Framing
+pub mod Outside
+pub mod Summing
 pub mod Working
+mod Empty

@@ -1,6 +1,6 @@
 -- The functions that the equations of a program are made of: sets of their facts, their clauses, and what forgetting, renaming and fixing
 -- make of these.
-use Rattle.std.specs.Prelude.{◌≡◌, ◌⊎◌, ℕ, ◌+◌, ◌/◌, ◌%◌, ◌<◌, ◌&&◌, ◌||◌, nat_lt, nat_eq, not, Bool, true, false, List, [], ◌∷◌, ◌++◌, Some, None, Option, zero, suc, slice_get, if◌then◌else◌}
+use Rattle.std.specs.Prelude.{◌≡◌, ◌⊎◌, ℕ, ◌+◌, ◌/◌, ◌%◌, ◌<◌, Contains, ◌&&◌, ◌||◌, nat_lt, nat_eq, not, Bool, true, false, List, [], ◌∷◌, ◌++◌, Some, None, Option, zero, suc, slice_get, if◌then◌else◌}
 use Rattle.ja_ir.specs.declared.program.Parts.{Parts}
 use Rattle.ja_ir.specs.declared.method.Method.{Method}
 use Rattle.ja_base.specs.declared.java_type.Kind.{Kind}
@@ -10,12 +10,13 @@ use Rattle.ja_ir.specs.declared.op.CallOp.{CallOp}
 use Rattle.ja_ir.specs.Lookup.{OpAt}
 use Rattle.ja_ir.specs.Operations.{arguments}
 use Rattle.ja_ir.specs.Params.{param_local, param_count}
+use Rattle.ja_ir.specs.Handlers.{Place, dest, Inside, Outside}
 use Rattle.ja_ir.specs.Initializing.{InitAt}
 use Rattle.ja_node_core.specs.Tree.{Tree, branch, truth, IsReduced, Assignment as Variables}
 use Rattle.ja_bdd.specs.Functions.{Function, renamed, KeepsOrder, IsFree}
 use Rattle.ja_bdd.specs.Copies.{forgotten_below, fixed_below}
 use Rattle.ja_facts.specs.Least.{Least}
-use Rattle.ja_facts.specs.ClassSets.{CallsMethod}
+use Rattle.ja_facts.specs.ClassSets.{CallsMethod, InThrown}
 use Rattle.ja_facts.specs.Slots.{CallAt, Slot, Local as InLocal, OnStack as InStack}
 use Rattle.ja_facts.specs.Crossings.{has_result}
 use Rattle.ja_facts.specs.Analyses.{Analyses}
@@ -29,6 +30,7 @@ use Rattle.ja_work.specs.declared.frame.Frame.{Frame}
 use Rattle.ja_work.specs.Clauses.{never, moved}
 use Rattle.ja_work.specs.Ends.{Tests, AreTests, may_go_on, normal_clauses, may_end, exceptional_clauses, AreAffected, return_clauses, throw_clauses, caught_clauses, summary_of}
 use Rattle.ja_work.specs.Frames.{size, spot_at, variable, read, clause_function, clauses_from}
+use Rattle.ja_work.specs.Thrown.{ends_thrown}
 
 -- the local is the first one of a parameter of the method
 abbrev pub is_param : Method → ℕ → Bool
@@ -82,36 +84,52 @@ leave_clauses (OnStack k) = never
 leave_clauses Dirt = moved Dirt
 leave_clauses Exc = moved Exc
 
+-- instruction i of method m does this operation, the kinds reach it, and before it there are so many values on the stack
+pub record ReachedAt (p : Parts) (m i : ℕ) (op : Op) (height : ℕ) : Type 0 where
+  pub at : OpAt p m i op height
+  pub reached : at.instr.reached ≡ true
+
 module _ (p : Parts) (A : Analyses) where
   -- the facts of the equations
   abbrev pub Facts : Fact → Type 0
   Facts = Least (Rule p A)
 
+  -- something that instruction i of method m throws goes to this place
+  pub record GoesTo (m i : ℕ) (place : Place) : Type 0 where
+    pub token : ℕ
+    pub thrown : A.classes (InThrown m i token)
+    pub goes : Contains (dest p m i token) place
+
   -- the clauses are those of an end of instruction i of method m, of a way through a method, of a handler, or of an end of the method
   pub data IsRule (m i : ℕ) : (Spot → Clause) → Type 0 where
-    normal : {op : Op} {height : ℕ} (tests : Tests) → OpAt p m i op height → AreTests A m i tests → may_go_on tests op ≡ true → IsRule m i (normal_clauses tests op height)
-    exceptional : {op : Op} {height : ℕ} (tests : Tests) (way : Way) → OpAt p m i op height → AreTests A m i tests → may_end tests op way ≡ true → IsRule m i (exceptional_clauses way tests op height)
+    normal : {op : Op} {height : ℕ} (tests : Tests) → ReachedAt p m i op height → AreTests A m i tests → may_go_on tests op ≡ true → IsRule m i (normal_clauses tests op height)
+    exceptional : {op : Op} {height : ℕ} (tests : Tests) (way : Way) → ReachedAt p m i op height → AreTests A m i tests → may_end tests op way ≡ true → IsRule m i (exceptional_clauses way tests op height)
     returns : {n under : ℕ} {call : CallOp} (affected : Slot → Bool) (s : Summary) → CallAt p m i call under → A.classes (CallsMethod m i n) → AreAffected A m i n (arguments call) under affected
         → IsRule m i (return_clauses affected under (has_result call.result) s)
     throws : {n under : ℕ} {call : CallOp} (affected : Slot → Bool) (s : Summary) → CallAt p m i call under → A.classes (CallsMethod m i n) → AreAffected A m i n (arguments call) under affected
         → IsRule m i (throw_clauses affected s)
-    initializes : {n height : ℕ} {op : Op} (affected : Slot → Bool) (s : Summary) → OpAt p m i op height → InitAt p m i n → AreAffected A m i n 0 height affected → IsRule m i (return_clauses affected height false s)
-    caught : IsRule m i caught_clauses
-    returns_value : {k : ℕ} {kind : Kind} → OpAt p m i (Return (Some kind)) (suc k) → IsRule m i (end_clauses (Some k))
-    returns_nothing : {height : ℕ} → OpAt p m i (Return None) height → IsRule m i (end_clauses None)
-    leaves : IsRule m i leave_clauses
+    initializes : {n height : ℕ} {op : Op} (affected : Slot → Bool) (s : Summary) → ReachedAt p m i op height → InitAt p m i n → AreAffected A m i n 0 height affected → IsRule m i (return_clauses affected height false s)
+    caught : {j : ℕ} → GoesTo m i (Inside j) → IsRule m i caught_clauses
+    returns_value : {k : ℕ} {kind : Kind} → ReachedAt p m i (Return (Some kind)) (suc k) → IsRule m i (end_clauses (Some k))
+    returns_nothing : {height : ℕ} → ReachedAt p m i (Return None) height → IsRule m i (end_clauses None)
+    leaves : GoesTo m i Outside → IsRule m i leave_clauses
+
+  -- from the parameters a, an exceptional end of instruction i of method m, its own or that of a method that it calls, may lead to the
+  -- assignment c
+  pub data IsThrown (m i : ℕ) (a : Assignment) : Assignment → Type 0 where
+    by_itself : (b c : Assignment) → Facts (At m i a b) → IsExceptionalEnd p A m i b c → IsThrown m i a c
+    by_callee : {n under : ℕ} {call : CallOp} (b c d : Assignment) (s : Summary) → Facts (At m i a b) → Calls p A m i n call under b d → Facts (Threw n d s)
+        → IsCallThrown A m i n (arguments call) under b s c → IsThrown m i a c
 
   -- from the parameters a, an end of instruction i of method m may lead to the assignment c
   pub data IsAfter (m i : ℕ) (a : Assignment) : Assignment → Type 0 where
     after_normal : (b c : Assignment) → Facts (At m i a b) → IsNormalEnd p A m i b c → IsAfter m i a c
-    after_exceptional : (b c : Assignment) → Facts (At m i a b) → IsExceptionalEnd p A m i b c → IsAfter m i a c
+    after_thrown : (c : Assignment) → IsThrown m i a c → IsAfter m i a c
     after_return : {n under : ℕ} {call : CallOp} (b c d : Assignment) (s : Summary) → Facts (At m i a b) → Calls p A m i n call under b d → Facts (Normal n d s)
         → IsReturn A m i n (arguments call) under (has_result call.result) b s c → IsAfter m i a c
-    after_throw : {n under : ℕ} {call : CallOp} (b c d : Assignment) (s : Summary) → Facts (At m i a b) → Calls p A m i n call under b d → Facts (Threw n d s)
-        → IsCallThrown A m i n (arguments call) under b s c → IsAfter m i a c
     after_initializer : {n height : ℕ} {op : Op} (b c d : Assignment) (s : Summary) → Facts (At m i a b) → OpAt p m i op height → InitAt p m i n → IsNothing d → Facts (Normal n d s)
         → IsReturn A m i n 0 height false b s c → IsAfter m i a c
-    after_caught : (b c : Assignment) → IsAfter m i a b → IsCaught b c → IsAfter m i a c
+    after_caught : {j : ℕ} (b c : Assignment) → IsThrown m i a b → GoesTo m i (Inside j) → IsCaught b c → IsAfter m i a c
 
   -- what is said of the parameters and the assignment of a set of facts: before instruction i of method m, of the method, or after the instruction
   pub data Saying : Type 0 where
@@ -133,17 +151,35 @@ module _ (p : Parts) (A : Analyses) where
     pub record IsMethod (m : ℕ) (method : Method) (frame : Frame) : Type 0 where
       pub found : slice_get p.methods m ≡ Some method
       pub framed : slice_get frames m ≡ Some frame
+      pub locals : frame.locals ≡ method.locals
+      pub stack : frame.stack ≡ method.stack
 
-    -- some facts of a method, before or after one of its instructions
-    pub data IsSome : Function → Type 0 where
-      some_of : {m : ℕ} {method : Method} {frame : Frame} (saying : Saying) (φ : Function) → IsMethod m method frame → IsSet method frame (Says m saying) φ → IsSome φ
+    -- the variable is that of a place in the frame of a method
+    pub record IsVariable (v : ℕ) : Type 0 where
+      pub m : ℕ
+      pub method : Method
+      pub frame : Frame
+      pub is : IsMethod m method frame
+      pub inside : v / 4 < size frame
 
-    -- one clause of a rule, or those from some place on
-    pub data IsClauses : Function → Type 0 where
-      one_clause : {m i : ℕ} {method : Method} {frame : Frame} {clauses : Spot → Clause} (place : ℕ) → IsMethod m method frame → IsRule m i clauses → place < size frame
-          → IsClauses (clause_function frame (clauses (spot_at frame place)) (spot_at frame place))
-      rest_of_rule : {m i : ℕ} {method : Method} {frame : Frame} {clauses : Spot → Clause} (place count : ℕ) → IsMethod m method frame → IsRule m i clauses → place + count ≡ size frame
-          → IsClauses (clauses_from frame clauses place count)
+    -- some of what is said of method m in this way
+    pub data IsSome (m : ℕ) (saying : Saying) : Function → Type 0 where
+      some_of : {method : Method} {frame : Frame} (φ : Function) → IsMethod m method frame → IsSet method frame (Says m saying) φ → IsSome m saying φ
+
+    -- some contexts, returns or throws of method m
+    pub data IsOfMethod (m : ℕ) : Function → Type 0 where
+      contexts : (φ : Function) → IsSome m of_context φ → IsOfMethod m φ
+      returned : (φ : Function) → IsSome m of_return φ → IsOfMethod m φ
+      thrown : (φ : Function) → IsSome m of_throw φ → IsOfMethod m φ
+
+    -- one clause of a rule of instruction i of method m, those from some place on, or a whole exceptional end
+    pub data IsClauses (m i : ℕ) : Function → Type 0 where
+      one_clause : {method : Method} {frame : Frame} {clauses : Spot → Clause} (place : ℕ) → IsMethod m method frame → IsRule m i clauses → place < size frame
+          → IsClauses m i (clause_function frame (clauses (spot_at frame place)) (spot_at frame place))
+      rest_of_rule : {method : Method} {frame : Frame} {clauses : Spot → Clause} (place count : ℕ) → IsMethod m method frame → IsRule m i clauses → place + count ≡ size frame
+          → IsClauses m i (clauses_from frame clauses place count)
+      whole_exceptional : {height : ℕ} {method : Method} {frame : Frame} {op : Op} (tests : Tests) → IsMethod m method frame → ReachedAt p m i op height → AreTests A m i tests
+          → IsClauses m i (ends_thrown frame tests op height)
 
 -- the value of a variable, or its negation
 abbrev pub signed : (positive value : Bool) → Bool
@@ -188,22 +224,31 @@ pub data IsPiece (frame : Frame) (clause : Clause) (s : Spot) : Function → Typ
       → (v ≡ variable frame s 2) ⊎ ((us : List ℕ) × (ws : List ℕ) × (variables_of frame clause ≡ us ++ v ∷ ws))
       → IsPiece frame clause s (tied_by both (literal v sign) (gathered positive vs))
 
--- a part of a product: everything, or a function of one kind, whose variables may have been renamed in their order
-pub data IsPart (kind : Function → Type 0) : Function → Type 0 where
-  everything : IsPart kind (λ a. true)
-  placed : (φ : Function) (partner : ℕ → ℕ) → kind φ → KeepsOrder partner φ → IsPart kind (renamed partner φ)
-
--- one literal
-pub data IsLiteral : Function → Type 0 where
-  one_literal : (v : ℕ) (positive : Bool) → IsLiteral (literal v positive)
-
 module _ (p : Parts) (A : Analyses) (frames : List Frame) where
-  -- facts before an instruction, facts of a method, facts after an instruction, clauses and a literal
+  -- the variables that the function looks at become variables of methods, in their order
+  pub record IsPlaced (partner : ℕ → ℕ) (φ : Function) : Type 0 where
+    pub ordered : KeepsOrder partner φ
+    pub variables : (v : ℕ) → ¬ IsFree v φ → IsVariable p A frames (partner v)
+
+  -- a part of a product: everything, or a function of one kind, as it is or with its variables renamed
+  pub data IsPart (kind : Function → Type 0) : Function → Type 0 where
+    everything : IsPart kind (λ a. true)
+    as_it_is : (φ : Function) → kind φ → IsPart kind φ
+    placed : (φ : Function) (partner : ℕ → ℕ) → kind φ → IsPlaced partner φ → IsPart kind (renamed partner φ)
+
+  -- one literal
+  pub data IsLiteral : Function → Type 0 where
+    one_literal : (v : ℕ) (positive : Bool) → IsVariable p A frames v → IsLiteral (literal v positive)
+
+  -- facts before an instruction, facts of a method, facts after the instruction, clauses of it and a literal
   pub record IsProduct (φ : Function) : Type 0 where
-    pub first : (ψ : Function) × IsPart (IsSome p A frames) ψ
-    pub second : (ψ : Function) × IsPart (IsSome p A frames) ψ
-    pub third : (ψ : Function) × IsPart (IsSome p A frames) ψ
-    pub clauses : (ψ : Function) × IsPart (IsClauses p A frames) ψ
+    pub m : ℕ
+    pub i : ℕ
+    pub n : ℕ
+    pub first : (ψ : Function) × IsPart (IsSome p A frames m (before i)) ψ
+    pub second : (ψ : Function) × IsPart (IsOfMethod p A frames n) ψ
+    pub third : (ψ : Function) × IsPart (IsSome p A frames m (behind i)) ψ
+    pub clauses : (ψ : Function) × IsPart (IsClauses p A frames m i) ψ
     pub literal : (ψ : Function) × IsPart IsLiteral ψ
     pub is : (a : Variables) → φ a ≡ (first.0 a && (second.0 a && (third.0 a && (clauses.0 a && literal.0 a))))
 
@@ -213,7 +258,7 @@ module _ (p : Parts) (A : Analyses) (frames : List Frame) where
     piece : {m i : ℕ} {method : Method} {frame : Frame} {clauses : Spot → Clause} (φ : Function) (place : ℕ) → IsMethod p A frames m method frame → IsRule p A m i clauses → place < size frame
         → IsPiece frame (clauses (spot_at frame place)) (spot_at frame place) φ → IsWork φ
     forgot : (φ : Function) (goes : ℕ → Bool) (n : ℕ) → IsWork φ → IsWork (forgotten_below n goes φ)
-    renamed_as : (φ : Function) (partner : ℕ → ℕ) → IsWork φ → KeepsOrder partner φ → IsWork (renamed partner φ)
+    renamed_as : (φ : Function) (partner : ℕ → ℕ) → IsWork φ → IsPlaced partner φ → IsWork (renamed partner φ)
     fixed_at : (φ : Function) (v : ℕ) (below : Variables) → IsWork φ → IsWork (fixed_below v below φ)
     -- what its first variable fixed makes of work, as a tree
     low : (v : ℕ) (l h : Tree) → IsReduced (branch v l h) → IsWork (truth (branch v l h)) → IsWork (truth l)

@@ -10,6 +10,6 @@ mod work;
 
 pub use clause::{Clause, Spot};
 pub use frame::{Frame, Frames};
-pub use law::{law_ends, law_frames, law_tests, law_work};
+pub use law::{law_ends, law_frames, law_no_work, law_outside, law_summaries, law_tests, law_work};
 pub use way::Way;
 pub use work::Work;

@@ -5,7 +5,7 @@ use ja_lib::Table;
 use ja_lower::LowerFault;
 use std::alloc::Global;
 use std::thread::Threads;
-use tool_parts::{ClassFolder, refusal_text, text_of};
+use tool_parts::{ClassFolder, text_of_refusal, text_of};
 
 /// What comes of files as one folder.
 #[derive(Drop)]
@@ -43,7 +43,7 @@ pub fn outcome_text<R: Threads + Sync>(
 ) -> Result<String, Memory> {
     match outcome_of(rt, alloc, files, table)? {
         Outcome::Unread => Ok(String::from_str(alloc, "unread\n")?),
-        Outcome::Refused(refusal) => refusal_text(alloc, &refusal),
+        Outcome::Refused(refusal) => text_of_refusal(alloc, &refusal),
         Outcome::Lowered(program) => text_of(alloc, &program),
     }
 }

@@ -5,7 +5,7 @@ use ja_lib::{Table, TableFault, default_table, read_table};
 use ja_lower::LowerFault;
 use std::alloc::{AllocError, Global};
 use std::thread::Threads;
-use tool_parts::{ClassFolder, ListingFault, class_files, refusal_text, text_of};
+use tool_parts::{ClassFolder, ListingFault, class_files, text_of_refusal, text_of};
 
 /// More methods than there are: so all are one piece, for one thread.
 const ONE_PIECE: usize = usize::MAX;
@@ -76,7 +76,7 @@ pub fn case_text<R: Threads + Sync>(
 ) -> Result<String, Memory> {
     match lowered_text(rt, alloc, listing, table) {
         Ok(text) => Ok(text),
-        Err(CaseFault::Refused(refusal)) => refusal_text(alloc, &refusal),
+        Err(CaseFault::Refused(refusal)) => text_of_refusal(alloc, &refusal),
         Err(CaseFault::Item(number)) => Ok(format!(in alloc; "item {number}\n")?),
         Err(CaseFault::Unread(place)) => Ok(format!(in alloc; "unread {place}\n")?),
         Err(CaseFault::Text) => Ok(String::from_str(alloc, "no UTF-8\n")?),
@@ -140,7 +140,7 @@ fn outcome_text<R: Threads + Sync>(
     };
     match outcome {
         Ok(program) => text_of(alloc, &program),
-        Err(LowerFault::Refused(refusal)) => refusal_text(alloc, &refusal),
+        Err(LowerFault::Refused(refusal)) => text_of_refusal(alloc, &refusal),
         Err(LowerFault::Memory) => Err(Memory),
     }
 }

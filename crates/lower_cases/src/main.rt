@@ -9,8 +9,6 @@
 #![tactic(auto)]
 
 mod case;
-#[cfg(test)]
-mod tests;
 
 use case::case_text;
 use ja_base::{File, Name};

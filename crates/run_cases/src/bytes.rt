@@ -1,4 +1,5 @@
 //! Bytes, names and numbers in text.
+use case_text::unescaped;
 use ja_base::{Bytes, File, Files, Memory, Name, Numbers};
 use std::alloc::{AllocError, Global};
 
@@ -56,29 +57,8 @@ pub fn number_of(word: &str) -> u64 {
 /// The name that a word spells: `''` without bytes, else its bytes, in which `\x` and two hexadecimal digits stand
 /// for a byte.
 pub fn name_of(alloc: Global, word: &str) -> Result<Name, Memory> {
-    let mut bytes = Vec::new(alloc);
-    for (at, part) in word.split("\\x").enumerate() {
-        add_part(&mut bytes, at, part)?;
-    }
-    if bytes.as_slice() == b"''".as_slice() {
-        bytes.clear();
-    }
-    Ok(Name::from_vec(bytes))
-}
-
-/// Adds a part of a word: each but the first begins with the digits of a byte.
-fn add_part(bytes: &mut Vec<u8>, at: usize, part: &str) -> Result<(), AllocError> {
-    if at == 0 {
-        return bytes.extend_from_slice(part.as_bytes());
-    }
-    match part.as_bytes() {
-        [high, low, rest @ ..] => {
-            let digits = [*high, *low];
-            bytes.push(byte_of(str::from_utf8(&digits).unwrap_or("")))?;
-            bytes.extend_from_slice(rest)
-        }
-        _ => Ok(()),
-    }
+    let word = if word == "''" { "" } else { word };
+    Ok(Name::from_vec(unescaped(alloc, word)?))
 }
 
 /// The files of the lines `file NAME BYTES CHANGE..` and `zeros NAME COUNT`.

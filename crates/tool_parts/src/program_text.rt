@@ -9,4 +9,4 @@ mod refusal;
 mod shown;
 
 pub use program::text_of;
-pub use refusal::refusal_text;
+pub use refusal::text_of_refusal;
