@@ -3,3 +3,4 @@ pub mod Descriptors
 pub mod Standing
 pub mod Few
 pub mod Writable
+pub mod Pushes
