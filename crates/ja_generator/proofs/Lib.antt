@@ -4,3 +4,4 @@ pub mod Standing
 pub mod Few
 pub mod Writable
 pub mod Pushes
+pub mod Names

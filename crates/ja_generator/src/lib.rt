@@ -9,4 +9,4 @@ mod items;
 mod law;
 
 pub use files::generated;
-pub use law::law_writable;
+pub use law::{law_names_ascend, law_writable};
