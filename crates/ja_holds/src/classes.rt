@@ -71,17 +71,12 @@ fn note_tokens(p: &Program, c: &ClassSets, f: u32, rows: &mut Rows<TokenSet>)
     requires rows { HasTokens p.now c.now f rows.old }
     ensures { HasTokens p.now c.now (f + 1) rows.new }
 {
-    let n = token_count(p);
     let field = p.fields().at(f as u64);
-    if !is_static(field.flags) {
-        add_members_at(
-            rows,
-            p.classes().len(),
-            field.class.0,
-            n,
-            c.field(FieldId(f)),
-        );
+    if is_static(field.flags) {
+        return;
     }
+    let set = c.field(FieldId(f));
+    add_members_at(rows, p.classes().len(), field.class.0, token_count(p), set);
 }
 
 // Adds what is noted at these classes to a set of numbers below `n`.
