@@ -1,7 +1,9 @@
 -- What the files that were read so far come to. Only private functions cite this.
-use Rattle.std.specs.Prelude.{◌≡◌, ℕ, List, Option, Some, None, Result, Ok, Err, length, sum_by}
+use Rattle.std.specs.Prelude.{◌≡◌, ℕ, ◌+◌, ◌<◌, ◌≤◌, ◌⊎◌, List, Option, Some, None, Result, Ok, Err, length, sum_by}
+use Rattle.ja_base.specs.Limit.{max_file_bytes, max_total_bytes}
 use Rattle.ja_base.specs.declared.file.File.{File}
 use Rattle.ja_base.specs.declared.refusal.Refusal.{Refusal}
+use Rattle.ja_base.specs.declared.refusal.Refusal.TheVariants.{FileTooLong, TotalTooLong}
 use Rattle.ja_class.specs.Meaning.{ClassSpelled}
 use Rattle.ja_lib.specs.File.{IsTableFile}
 use Rattle.ja_lower.specs.Accept.{AreClassesOf, IsFaulty, IsFileRefused, IsTableIn, IsTableRefused}
@@ -36,6 +38,11 @@ pub record AreJudged (files : List File) (judged : Judged) : Type 0 where
   pub short : IsNowhere (IsOver files)
   pub table : IsTableRead files judged.table
   pub classes : AreClassesRead (class_files files) judged.classes
+
+-- why a file of this name with `count` bytes is too long behind files of `total` bytes
+abbrev pub IsTooLongBehind : (total : ℕ) (name : List ℕ) (count : ℕ) → Refusal → Type 0
+IsTooLongBehind total name count refusal =
+    ((refusal ≡ FileTooLong name) × (max_file_bytes < count)) ⊎ ((refusal ≡ TotalTooLong name) × (count ≤ max_file_bytes) × (max_total_bytes < total + count))
 
 -- these files come to this, or the last of them is too long
 abbrev pub AreJudgedOrLong : (files : List File) → Result Judged Refusal → Type 0

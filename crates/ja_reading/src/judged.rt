@@ -1,5 +1,6 @@
 //! What the files that were read so far come to.
 ghost use Rattle.std.specs.Prelude.{◌≡◌, ◌≤◌, length};
+ghost use Rattle.ja_base.specs.Limit.{max_total_bytes};
 ghost use Rattle.ja_reading.specs.Sizes.{AreWithin};
 
 use ja_base::{Names, Refusal};
@@ -36,6 +37,6 @@ pub(crate) struct Judged {
     pub total: u64,
     pub table: TableRead,
     pub classes: ClassesRead,
-    ghost short: { total ≤ 67108864 },
+    ghost short: { total ≤ max_total_bytes },
     ghost few: { AreWithin classes.classes.items total },
 }

@@ -1,5 +1,5 @@
 //! What a folder comes to.
-ghost use Rattle.std.specs.Prelude.{◌≡◌, ◌≢◌, ◌≤◌, ◌⊎◌, List, IfOk, IfSome, IsErrOf, IsPermutation, IsSomeAnd, IsSorted, length};
+ghost use Rattle.std.specs.Prelude.{◌≡◌, ◌≢◌, ◌+◌, ◌≤◌, ◌⊎◌, List, IfOk, IfSome, IsErrOf, IsPermutation, IsSomeAnd, IsSorted, count_by, length};
 ghost use Rattle.std.specs.Option.{ForSome};
 ghost use Rattle.std.specs.Ordering.{nat_cmp};
 ghost use Rattle.std.specs.Cmp.Lexicographic.{slice_cmp};
@@ -9,11 +9,11 @@ ghost use Rattle.ja_base.specs.declared.refusal.Refusal.{Refusal};
 ghost use Rattle.ja_io.specs.Contents.{HasDistinctNames, names_of};
 ghost use Rattle.ja_ir.specs.declared.program.Parts.{Parts};
 ghost use Rattle.ja_lower.specs.Accept.{Accepts, Refuses};
-ghost use Rattle.ja_lower.specs.Folder.{AreInOrder, read_files};
+ghost use Rattle.ja_lower.specs.Folder.{AreInOrder, is_read, read_files};
 ghost use Rattle.ja_lower.specs.Program.{AreFew};
 ghost use Rattle.ja_reading.specs.Judged.{AreJudged};
 ghost use Rattle.ja_reading.specs.Judgement.{ComesTo, ComesUnder, IsLowered};
-ghost use Rattle.ja_reading.specs.Unread.{AreReadable};
+ghost use Rattle.ja_reading.specs.Unread.{AreReadable, AreRefused};
 ghost use Rattle.ja_reading.specs.declared.judgement.Judgement.TheVariants.{Accepted, Refused};
 
 use crate::fault::ReadingFault;
@@ -104,6 +104,7 @@ fn names_in_order<F: Folder>(alloc: Global, folder: &mut F) -> Result<Vec<Name>,
     ensures distinct { IfSome (F.told folder.new) (λ held. HasDistinctNames held.files) }
     ensures failed { IsErrOf result ReadingFault.Folder → Rose (F.faults folder.old) (F.faults folder.new) }
     ensures grows { F.faults folder.old ≤ F.faults folder.new }
+    ensures calls { F.calls folder.new ≤ F.calls folder.old + 1 }
     ensures held { F.told folder.new ≡ F.told folder.old }
 {
     let mut names = folder.list(alloc)?.into_vec();
@@ -123,6 +124,8 @@ fn judge_names<R: Threads + Sync, F: Folder>(
     ensures judged { IfOk result (λ judgement. IfSome (F.told folder.old) (λ held. ComesTo held.files judgement)) }
     ensures failed { IsErrOf result ReadingFault.Folder → Rose (F.faults folder.old) (F.faults folder.new) }
     ensures grows { F.faults folder.old ≤ F.faults folder.new }
+    ensures reads { F.calls folder.new ≤ F.calls folder.old + count_by is_read names.now }
+    ensures unread { AreRefused names.now → F.calls folder.new ≤ F.calls folder.old }
     ensures held { F.told folder.new ≡ F.told folder.old }
 {
     if let Some(refusal) = refusal_by_names(alloc, names)? {
@@ -158,6 +161,10 @@ pub fn judge_folder<R: Threads + Sync, F: Folder>(
     // A folder failed only where its count of faults rose, or where it tells another directory.
     ensures failed { IsErrOf result ReadingFault.Folder → Rose (F.faults folder.old) (F.faults folder.new) ⊎ IsSomeAnd (F.told folder.old) (λ held. held.dir ≢ dir.now) }
     ensures grows { F.faults folder.old ≤ F.faults folder.new }
+    // There are no more calls than to enter the directory, to list it, and to read each file that matters.
+    ensures reads { IfSome (F.told folder.old) (λ held. F.calls folder.new ≤ F.calls folder.old + 2 + count_by is_read (names_of held.files)) }
+    // Where names alone refuse the folder, no file is read.
+    ensures unread { IfSome (F.told folder.old) (λ held. AreRefused (names_of held.files) → F.calls folder.new ≤ F.calls folder.old + 2) }
     ensures held { F.told folder.new ≡ F.told folder.old }
 {
     law_one_verdict();

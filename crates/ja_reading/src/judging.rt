@@ -1,5 +1,6 @@
 //! Judging files one by one, so that the bytes of one that is judged are let go.
 ghost use Rattle.std.specs.Prelude.{◌≡◌, ◌++◌, ◌+◌, ◌≤◌, [], ◌∷◌, ℕ, List, false, true, length, IfOk};
+ghost use Rattle.ja_base.specs.Limit.{max_file_bytes, max_total_bytes};
 ghost use Rattle.ja_base.specs.declared.file.File.{File};
 ghost use Rattle.ja_lower.specs.Folder.{is_class_file, is_read, table_name};
 ghost use Rattle.ja_reading.specs.Judged.{AreClassesRead, AreJudged, IsTableRead};
@@ -9,7 +10,7 @@ use crate::judged::{ClassesRead, Judged, TableRead};
 use crate::names::is_class_file;
 use crate::refusal::{refusal_of_class, refusal_of_table};
 use ja_base::{Memory, Name, Names, Refusal};
-use ja_class::{Class, ClassFault, read_class};
+use ja_class::{Class, law_spelled_or_refused, read_class};
 use ja_lib::read_table;
 use std::alloc::Global;
 
@@ -88,6 +89,7 @@ fn with_class_file(
     ensures judged { IfOk result (λ now. (files : List File) (next : File) → next.name ≡ file → next.bytes ≡ bytes.now → AreClassesRead files read → AreClassesRead (files ++ next ∷ []) now) }
     ensures few { IfOk result (λ now. (total : ℕ) → AreWithin read.classes.items total → AreWithin now.classes.items (total + length bytes.now)) }
 {
+    law_spelled_or_refused();
     if read.refusal.is_some() {
         return Ok(read);
     }
@@ -108,8 +110,8 @@ pub(crate) fn with_file(
     bytes: &[u8],
 ) -> Result<Judged, Memory>
     requires read { is_read file ≡ true }
-    requires short { length bytes.now ≤ 4194304 }
-    requires total { judged.total + length bytes.now ≤ 67108864 }
+    requires short { length bytes.now ≤ max_file_bytes }
+    requires total { judged.total + length bytes.now ≤ max_total_bytes }
     ensures { IfOk result (λ now. (files : List File) (next : File) → next.name ≡ file → next.bytes ≡ bytes.now → AreJudged files judged → AreJudged (files ++ next ∷ []) now) }
 {
     let Judged {

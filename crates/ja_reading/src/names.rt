@@ -1,9 +1,9 @@
 //! Which files are read, and what the names of files alone say.
-ghost use Rattle.std.specs.Prelude.{◌≡◌, ℕ, List, IfOk, count_by, option_copied};
+ghost use Rattle.std.specs.Prelude.{◌≡◌, ◌≢◌, List, None, IfOk, count_by, option_copied};
 ghost use Rattle.std.specs.List.{find};
 ghost use Rattle.ja_base.specs.declared.file.File.{File};
 ghost use Rattle.ja_lower.specs.Folder.{is_archive, is_class_file, is_read, names_of};
-ghost use Rattle.ja_reading.specs.Unread.{IsByName};
+ghost use Rattle.ja_reading.specs.Unread.{AreRefused, IsByName};
 
 use ja_base::{MAX_CLASS_FILES, Memory, Name, Refusal};
 use std::alloc::Global;
@@ -49,7 +49,8 @@ fn count_class_files(names: &[Name]) -> usize
 
 /// The refusal of a folder by the names of its files, which are in order, if they refuse it.
 pub(crate) fn refusal_by_names(alloc: Global, names: &[Name]) -> Result<Option<Refusal>, Memory>
-    ensures { IfOk result (λ refusal. (files : List File) → names_of files ≡ names.now → IsByName files refusal) }
+    ensures refusal { IfOk result (λ refusal. (files : List File) → names_of files ≡ names.now → IsByName files refusal) }
+    ensures refused { IfOk result (λ refusal. AreRefused names.now → refusal ≢ None) }
 {
     if let Some(name) = first_archive(names) {
         let file = name.copy(alloc)?;
