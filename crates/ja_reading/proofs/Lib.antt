@@ -7,5 +7,6 @@ pub mod Unread
 pub mod Sizes
 pub mod Steps
 pub mod MoreFiles
+pub mod OneByOne
 pub mod Conclusions
 pub mod Whole

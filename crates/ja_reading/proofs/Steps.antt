@@ -1,14 +1,15 @@
 -- One file more that is read and judged.
-use Rattle.std.proofs.Common.{◌≡◌, ℕ, zero, suc, ◌+◌, ◌<◌, ◌≤◌, List, [], ◌∷◌, ◌++◌, length, take, Option, Some, None, IfSome, All, Contains, refl, ap, sym, ◌∙◌, subst, arith}
-use Rattle.std.proofs.lemmas.List.{length-take}
+use Rattle.std.proofs.Common.{◌≡◌, ℕ, ◌+◌, ◌<◌, ◌≤◌, inl, inr, List, [], ◌∷◌, ◌++◌, length, take, Option, Some, None, IfSome, All, Contains, refl, ap, sym, ◌∙◌, subst, arith}
+use Rattle.std.proofs.lemmas.List.{length-take, take_all}
 use Rattle.std.proofs.lemmas.List.Elements.{All-contains}
 use Rattle.ja_base.specs.declared.file.File.{File}
+use Rattle.ja_base.specs.declared.refusal.Refusal.{Refusal}
 use Rattle.ja_base.specs.declared.refusal.Refusal.TheVariants.{FileTooLong, TotalTooLong}
 use Rattle.ja_io.specs.Contents.{Contents}
 use Rattle.ja_io.specs.Front.{IsFront}
 use Rattle.ja_io.specs.declared.folder.Piece.{Piece}
 use Rattle.ja_lower.specs.Folder.{IsLengthRefusal}
-use Rattle.ja_reading.specs.Judged.{AreJudged, bytes_of}
+use Rattle.ja_reading.specs.Judged.{AreJudged, IsTooLongBehind, bytes_of}
 use Rattle.ja_reading.specs.declared.judged.Judged.{Judged}
 use Rattle.ja_reading.proofs.Lengths.{last_too_long, last_too_much}
 
@@ -37,12 +38,6 @@ front_is_long content most bytes front long =
     let size : length bytes ≡ length (take most content) = ap length front in
     omega (arith, length-take most content)
 
-take_all : (n : ℕ) (xs : List ℕ) → length xs ≤ n → take n xs ≡ xs
-take_all zero [] h = refl
-take_all zero (x ∷ xs) h = absurd (omega arith)
-take_all (suc n) [] h = refl
-take_all (suc n) (x ∷ xs) h = ap (λ (rest : List ℕ). x ∷ rest) (take_all n xs (omega arith))
-
 -- a front that is short is the whole
 pub front_is_whole : (content : List ℕ) (most : ℕ) (bytes : List ℕ) → 4194304 < most → bytes ≡ take most content → length bytes ≤ 4194304 → bytes ≡ content
 front_is_whole content most bytes more front short =
@@ -51,14 +46,14 @@ front_is_whole content most bytes more front short =
     front ∙ take_all most content within
 
 -- the file is too long
-pub too_long_step : (files : List File) (file : File) (judged : Judged) (name : List ℕ) (most : ℕ) (bytes : List ℕ) → bytes ≡ take most file.bytes
+too_long_step : (files : List File) (file : File) (judged : Judged) (name : List ℕ) (most : ℕ) (bytes : List ℕ) → bytes ≡ take most file.bytes
     → 4194304 < length bytes → file.name ≡ name → AreJudged files judged → IsLengthRefusal (files ++ file ∷ []) (FileTooLong name)
 too_long_step files file judged name most bytes front long named before =
     subst (λ (n : List ℕ). IsLengthRefusal (files ++ file ∷ []) (FileTooLong n)) named
     (last_too_long files file before.short (front_is_long file.bytes most bytes front long))
 
 -- with the file all are too long together
-pub too_much_step : (files : List File) (file : File) (judged : Judged) (name : List ℕ) (most : ℕ) (bytes : List ℕ) → 4194304 < most → bytes ≡ take most file.bytes
+too_much_step : (files : List File) (file : File) (judged : Judged) (name : List ℕ) (most : ℕ) (bytes : List ℕ) → 4194304 < most → bytes ≡ take most file.bytes
     → length bytes ≤ 4194304 → 67108864 < judged.total + length bytes → file.name ≡ name → AreJudged files judged
     → IsLengthRefusal (files ++ file ∷ []) (TotalTooLong name)
 too_much_step files file judged name most bytes more front short much named before =
@@ -67,3 +62,13 @@ too_much_step files file judged name most bytes more front short much named befo
     let total : judged.total ≡ bytes_of files = before.total in
     subst (λ (n : List ℕ). IsLengthRefusal (files ++ file ∷ []) (TotalTooLong n)) named
     (last_too_much files file before.short (omega arith) (omega arith))
+
+-- the file is too long behind the others, alone or with them
+pub too_long_behind : (files : List File) (file : File) (judged : Judged) (name : List ℕ) (most : ℕ) (bytes : List ℕ) (refusal : Refusal) → 4194304 < most
+    → bytes ≡ take most file.bytes → file.name ≡ name → IsTooLongBehind judged.total name (length bytes) refusal → AreJudged files judged
+    → IsLengthRefusal (files ++ file ∷ []) refusal
+too_long_behind files file judged name most bytes refusal more front named long before = elim long [
+  | inl alone ↦ subst (IsLengthRefusal (files ++ file ∷ [])) (sym alone.0) (too_long_step files file judged name most bytes front alone.1 named before)
+  | inr together ↦
+      subst (IsLengthRefusal (files ++ file ∷ [])) (sym together.0) (too_much_step files file judged name most bytes more front together.1 together.2 named before)
+]

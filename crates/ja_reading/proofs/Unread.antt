@@ -1,12 +1,13 @@
 -- What the names of files say before any is read.
-use Rattle.std.proofs.Common.{◌≡◌, ℕ, zero, suc, ◌<◌, ◌≤◌, Bool, true, false, cond, List, [], ◌∷◌, length, map, Option, Some, None, refl, ap, sym, ◌∙◌, arith}
-use Rattle.std.specs.Prelude.{count_by, slice_get}
+use Rattle.std.proofs.Common.{◌≡◌, ℕ, zero, suc, ◌+◌, ◌<◌, ◌≤◌, inl, inr, Bool, true, false, cond, List, [], ◌∷◌, length, map, Option, Some, None, refl, ap, sym, ◌∙◌, arith}
+use Rattle.std.specs.Prelude.{IsPermutation, count_by, slice_get}
 use Rattle.std.specs.List.{filter, find}
-use Rattle.std.proofs.lemmas.List.Sums.{length-filter}
+use Rattle.std.proofs.lemmas.List.Sorted.{sum_by-IsPermutation}
+use Rattle.std.proofs.lemmas.List.Sums.{length-filter, sum_by-cons}
 use Rattle.ja_base.specs.declared.file.File.{File}
 use Rattle.ja_base.specs.declared.refusal.Refusal.TheVariants.{Archive, TooManyFiles}
 use Rattle.ja_lower.specs.Folder.{class_files, is_archive, is_class_file, IsArchiveAt, IsRefusedUnread, archive, too_many_files, names_of}
-use Rattle.ja_reading.specs.Unread.{AreReadable}
+use Rattle.ja_reading.specs.Unread.{AreReadable, AreRefused}
 use Rattle.ja_supertypes.specs.Faults.{IsFirst, IsNowhere}
 
 -- one file more in front
@@ -28,12 +29,12 @@ none_behind : (f : File) (files : List File) → is_archive f.name ≡ false →
 none_behind f files plain none zero is = not_archive f files plain is
 none_behind f files plain none (suc k) is = none k (archive_of_rest f files k is)
 
+never : (name : List ℕ) → None ≡ Some name → ⊥
+never name found = cc
+
 no_archive_step : (f : File) (files : List File) → (None ≡ find is_archive (names_of files) → IsNowhere (IsArchiveAt files)) → (b : Bool) → is_archive f.name ≡ b
     → None ≡ cond b (Some f.name) (find is_archive (names_of files)) → IsNowhere (IsArchiveAt (f ∷ files))
 no_archive_step f files rest true e found = absurd (never f.name found)
-  where
-    never : (name : List ℕ) → None ≡ Some name → ⊥
-    never name found = cc
 no_archive_step f files rest false e found = none_behind f files e (rest found)
 
 pub no_archive : (files : List File) → None ≡ find is_archive (names_of files) → IsNowhere (IsArchiveAt files)
@@ -98,3 +99,31 @@ class_count files = sym (length-filter is_class_file (names_of files)) ∙ by fi
     by : (fs : List File) → length (filter is_class_file (names_of fs)) ≡ length (class_files fs)
     by [] = refl
     by (f ∷ fs) = step (is_class_file f.name) f.name f (filter is_class_file (names_of fs)) (class_files fs) (by fs)
+
+-- names without an archive, of which few are those of class files, do not refuse the files
+none_found_step : (name : List ℕ) (names : List (List ℕ)) → (None ≡ find is_archive names → count_by is_archive names ≡ 0) → (b : Bool) → is_archive name ≡ b
+    → None ≡ cond b (Some name) (find is_archive names) → count_by is_archive (name ∷ names) ≡ 0
+none_found_step name names rest true is found = absurd (never name found)
+none_found_step name names rest false is found =
+    let one : cond (is_archive name) 1 0 ≡ 0 = ap (λ (b : Bool). cond b 1 0) is in
+    omega (arith, one, rest found, sum_by-cons (λ (n : List ℕ). cond (is_archive n) 1 0) name names)
+
+none_found : (names : List (List ℕ)) → None ≡ find is_archive names → count_by is_archive names ≡ 0
+none_found [] none = refl
+none_found (name ∷ names) none = none_found_step name names (none_found names) (is_archive name) refl none
+
+pub not_refused : (names : List (List ℕ)) → None ≡ find is_archive names → count_by is_class_file names ≤ 4096 → AreRefused names → ⊥
+not_refused names none few refused = elim refused [
+  | inl some ↦ absurd (omega (arith, some, none_found names none))
+  | inr many ↦ absurd (omega (arith, many))
+]
+
+-- as many names pass a test in each order
+pub count_in_order : (p : List ℕ → Bool) (names ordered : List (List ℕ)) → IsPermutation names ordered → count_by p ordered ≡ count_by p names
+count_in_order p names ordered moved = sum_by-IsPermutation (λ (n : List ℕ). cond (p n) 1 0) names ordered moved
+
+pub refused_in_order : (names ordered : List (List ℕ)) → IsPermutation names ordered → AreRefused names → AreRefused ordered
+refused_in_order names ordered moved refused = elim refused [
+  | inl some ↦ inl (omega (arith, some, count_in_order is_archive names ordered moved))
+  | inr many ↦ inr (omega (arith, many, count_in_order is_class_file names ordered moved))
+]

@@ -102,6 +102,64 @@ fn with_class_file(
     }
 }
 
+/// What is known once this class file is read too.
+fn with_next_class(
+    alloc: Global,
+    judged: Judged,
+    file: Name,
+    bytes: &[u8],
+) -> Result<Judged, Memory>
+    requires class { is_class_file file ≡ true }
+    requires short { length bytes.now ≤ max_file_bytes }
+    requires total { judged.total + length bytes.now ≤ max_total_bytes }
+    ensures { IfOk result (λ now. (files : List File) (next : File) → next.name ≡ file → next.bytes ≡ bytes.now → AreJudged files judged → AreJudged (files ++ next ∷ []) now) }
+{
+    let Judged {
+        total,
+        table,
+        classes,
+    } = judged;
+    match with_class_file(alloc, classes, file, bytes) {
+        Ok(classes) => Ok(Judged {
+            total: total + bytes.len() as u64,
+            table,
+            classes,
+        }),
+        Err(memory) => Err(memory),
+    }
+}
+
+/// What is known once a file of `count` bytes is read too, which is this table.
+fn with_table(judged: Judged, count: u64, table: TableRead) -> Judged
+    requires { judged.total + count ≤ max_total_bytes }
+    ensures total { result.total ≡ judged.total + count }
+    ensures table { result.table ≡ table }
+    ensures classes { result.classes ≡ judged.classes }
+{
+    let Judged {
+        total,
+        table: _,
+        classes,
+    } = judged;
+    Judged {
+        total: total + count,
+        table,
+        classes,
+    }
+}
+
+/// What is known once the table, which has these bytes, is read too.
+fn with_next_table(alloc: Global, judged: Judged, bytes: &[u8]) -> Result<Judged, Memory>
+    requires short { length bytes.now ≤ max_file_bytes }
+    requires total { judged.total + length bytes.now ≤ max_total_bytes }
+    ensures { IfOk result (λ now. (files : List File) (next : File) → next.name ≡ table_name → next.bytes ≡ bytes.now → AreJudged files judged → AreJudged (files ++ next ∷ []) now) }
+{
+    match table_of(alloc, bytes) {
+        Ok(table) => Ok(with_table(judged, bytes.len() as u64, table)),
+        Err(memory) => Err(memory),
+    }
+}
+
 /// What is known once this file, which is not too long and with which all are not, is read too.
 pub(crate) fn with_file(
     alloc: Global,
@@ -114,25 +172,9 @@ pub(crate) fn with_file(
     requires total { judged.total + length bytes.now ≤ max_total_bytes }
     ensures { IfOk result (λ now. (files : List File) (next : File) → next.name ≡ file → next.bytes ≡ bytes.now → AreJudged files judged → AreJudged (files ++ next ∷ []) now) }
 {
-    let Judged {
-        total,
-        table,
-        classes,
-    } = judged;
-    let total = total + bytes.len() as u64;
     if is_class_file(&file) {
-        let classes = with_class_file(alloc, classes, file, bytes)?;
-        Ok(Judged {
-            total,
-            table,
-            classes,
-        })
+        with_next_class(alloc, judged, file, bytes)
     } else {
-        let table = table_of(alloc, bytes)?;
-        Ok(Judged {
-            total,
-            table,
-            classes,
-        })
+        with_next_table(alloc, judged, bytes)
     }
 }

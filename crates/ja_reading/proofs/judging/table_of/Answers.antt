@@ -9,4 +9,4 @@ returns-in-Ok c files file named content =
 
 pub returns-in-Some : goal.returns-in-Some
 returns-in-Some c files file named content =
-    wrong_table files file c.in-Err.fault c.in-Some.refusal named (subst (λ (text : List ℕ). IsFaultOf text c.in-Err.fault) (sym content) c.in-Err.ensures.fault) c.in-Some.ensures
+    wrong_table files file c.in-Err.fault c.in-Some.refusal named (subst (λ (text : List ℕ). IsFaultOf text c.in-Err.fault) (sym content) c.in-Err.ensures.fault) (sym c.in-Some.ensures)
