@@ -5,7 +5,7 @@ use Rattle.std.specs.List.{filter}
 use Rattle.std.proofs.lemmas.List.{get_or-map, get_or_default, take_all, take_more, take-append-drop}
 use Rattle.std.proofs.lemmas.List.Elements.{filter-append}
 use Rattle.std.proofs.lemmas.List.Sorted.{Contains-permutation, IsPermutation-sym}
-use Rattle.std.proofs.lemmas.List.Sums.{sum_by_more, sum_by-take-le}
+use Rattle.std.proofs.lemmas.List.Sums.{sum_by-cons, sum_by_more, sum_by-take-le}
 use Rattle.std.proofs.Math.ListN.{length-map}
 use Rattle.ja_base.specs.declared.file.File.{File}
 use Rattle.ja_base.specs.declared.refusal.Refusal.{Refusal}
@@ -20,16 +20,6 @@ use Rattle.ja_reading.proofs.Steps.{at_some, if_some}
 read_more : (files : List File) (next : File) → is_read next.name ≡ true → read_files (files ++ next ∷ []) ≡ read_files files ++ next ∷ []
 read_more files next is =
     filter-append (λ (f : File). is_read f.name) files (next ∷ []) ∙ ap (λ (b : Bool). read_files files ++ cond b (next ∷ []) []) is
-
-read_same : (files : List File) (next : File) → is_read next.name ≡ false → read_files (files ++ next ∷ []) ≡ read_files files
-read_same files next is =
-    filter-append (λ (f : File). is_read f.name) files (next ∷ []) ∙ ap (λ (b : Bool). read_files files ++ cond b (next ∷ []) []) is ∙ append-nil (read_files files)
-
--- a file that does not matter changes nothing
-pub passed_over : (files : List File) (next : File) (name : List ℕ) (judged : Judged) → is_read name ≡ false → next.name ≡ name → AreJudged (read_files files) judged
-    → AreJudged (read_files (files ++ next ∷ [])) judged
-passed_over files next name judged other named before =
-    subst (λ (l : List File). AreJudged l judged) (sym (read_same files next (ap is_read named ∙ other))) before
 
 -- a file that matters is one of those that do
 pub one_more : (files : List File) (next : File) (name : List ℕ) (outcome : Result Judged Refusal) → is_read name ≡ true → next.name ≡ name
@@ -124,11 +114,19 @@ is_listed told names k name below at each held is =
     Contains-permutation names (names_of held.files) name (IsPermutation-sym (names_of held.files) names (each held is)) (k, below, sym at)
 
 -- how many names are those of files that matter, with one name more
-pub count_more : (names : List (List ℕ)) (k : ℕ) (name : List ℕ) → k < length names → name ≡ get_or names k name
+count_more : (names : List (List ℕ)) (k : ℕ) (name : List ℕ) → k < length names → name ≡ get_or names k name
     → count_by is_read (take (k + 1) names) ≡ count_by is_read (take k names) + count_by is_read (name ∷ [])
 count_more names k name below at =
-    let one : count_by is_read (name ∷ []) ≡ cond (is_read (get_or names k name)) 1 0 = ap (λ (n : List ℕ). cond (is_read n) 1 0) at in
-    omega (arith, one, sum_by_more (λ (n : List ℕ). cond (is_read n) 1 0) names k name below)
+    let f : List ℕ → ℕ = λ n. cond {A = ℕ} (is_read n) 1 0 in
+    let same : f (get_or names k name) ≡ f name = ap f (sym at) in
+    omega (arith, same, sum_by_more f names k name below, sum_by-cons f name [])
 
-pub count_front : (names : List (List ℕ)) (k : ℕ) → count_by is_read (take k names) ≤ count_by is_read names
-count_front names k = sum_by-take-le (λ (n : List ℕ). cond (is_read n) 1 0) names k
+-- so many calls there are by then, and in all
+pub calls_more : (names : List (List ℕ)) (k : ℕ) (name : List ℕ) (calls before now : ℕ) → k < length names → name ≡ get_or names k name
+    → before ≤ calls + count_by is_read (take k names) → now ≤ before + count_by is_read (name ∷ []) → now ≤ calls + count_by is_read (take (k + 1) names)
+calls_more names k name calls before now below at so_far next = omega (arith, so_far, next, count_more names k name below at)
+
+pub calls_within : (names : List (List ℕ)) (k : ℕ) (name : List ℕ) (calls before now : ℕ) → k < length names → name ≡ get_or names k name
+    → before ≤ calls + count_by is_read (take k names) → now ≤ before + count_by is_read (name ∷ []) → now ≤ calls + count_by is_read names
+calls_within names k name calls before now below at so_far next =
+    omega (arith, calls_more names k name calls before now below at so_far next, sum_by-take-le (λ (n : List ℕ). cond {A = ℕ} (is_read n) 1 0) names (k + 1))

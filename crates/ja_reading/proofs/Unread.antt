@@ -105,7 +105,7 @@ none_found_step : (name : List ℕ) (names : List (List ℕ)) → (None ≡ find
     → None ≡ cond b (Some name) (find is_archive names) → count_by is_archive (name ∷ names) ≡ 0
 none_found_step name names rest true is found = absurd (never name found)
 none_found_step name names rest false is found =
-    let one : cond (is_archive name) 1 0 ≡ 0 = ap (λ (b : Bool). cond b 1 0) is in
+    let one : cond {A = ℕ} (is_archive name) 1 0 ≡ 0 = ap (λ (b : Bool). cond {A = ℕ} b 1 0) is in
     omega (arith, one, rest found, sum_by-cons (λ (n : List ℕ). cond (is_archive n) 1 0) name names)
 
 none_found : (names : List (List ℕ)) → None ≡ find is_archive names → count_by is_archive names ≡ 0

@@ -17,7 +17,7 @@ pub returns-in-Own : goal.returns-in-Own
 returns-in-Own g c =
     IfOk-weaker c.under_table.result (λ (judgement : Judgement). ComesUnder c.args.judged.classes c.in-Own.table judgement)
     (λ (judgement : Judgement). (files : List File) → (ordered : List File) → AreInOrder files ordered → AreReadable ordered → AreJudged (read_files ordered) c.args.judged
-        → ComesTo files judgement)
+    → ComesTo files judgement)
     (λ judgement under files ordered order by_name read.
     concluded files ordered c.args.judged c.in-Own.table judgement order by_name read (own_is_table ordered c.args.judged c.in-Own.table c.in-Own.is read) under)
     c.under_table.ensures
@@ -26,7 +26,7 @@ pub returns-in_ok-table-in-Absent : goal.returns-in_ok-table-in-Absent
 returns-in_ok-table-in-Absent g c =
     IfOk-weaker c.under_table-in-Absent.result (λ (judgement : Judgement). ComesUnder c.args.judged.classes c.in_ok-table-in-Absent.table judgement)
     (λ (judgement : Judgement). (files : List File) → (ordered : List File) → AreInOrder files ordered → AreReadable ordered → AreJudged (read_files ordered) c.args.judged
-        → ComesTo files judgement)
+    → ComesTo files judgement)
     (λ judgement under files ordered order by_name read.
     concluded files ordered c.args.judged c.in_ok-table-in-Absent.table judgement order by_name read
     (default_is_table ordered c.args.judged c.in_ok-table-in-Absent.table c.in_ok-table-in-Absent.ensures c.in-Absent.is read) under)
