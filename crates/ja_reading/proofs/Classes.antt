@@ -1,7 +1,6 @@
 -- Class files that are read one after another.
-use Rattle.std.proofs.Common.{◌≡◌, ℕ, zero, suc, ◌+◌, ◌<◌, ◌≤◌, inl, inr, List, [], ◌∷◌, ◌++◌, length, map, Option, Some, None, refl, ap, sym, ◌∙◌, subst, arith, length-append}
+use Rattle.std.proofs.Common.{◌≡◌, ℕ, zero, suc, ◌<◌, inl, inr, List, [], ◌∷◌, ◌++◌, length, Some, None, refl, ap, subst, arith, length-append}
 use Rattle.std.specs.Prelude.{slice_get}
-use Rattle.std.proofs.lemmas.List.{map-append}
 use Rattle.std.proofs.lemmas.Option.{slice_get_within}
 use Rattle.ja_base.specs.declared.file.File.{File}
 use Rattle.ja_base.specs.declared.refusal.Refusal.{Refusal}
@@ -9,12 +8,10 @@ use Rattle.ja_class.specs.declared.fault.ClassFault.{ClassFault}
 use Rattle.ja_class.specs.Meaning.{ClassSpelled}
 use Rattle.ja_class.specs.ClassFile.{IsClass}
 use Rattle.ja_class.specs.ClassFault.{IsFault}
-use Rattle.ja_lower.specs.Accept.{AreClassesOf, IsFaulty, IsFileRefused}
-use Rattle.ja_lower.specs.Folder.{names_of}
+use Rattle.ja_lower.specs.Accept.{AreClassesOf, IsFileRefused}
 use Rattle.ja_lower.specs.Refusals.{class_refusal}
 use Rattle.ja_reading.specs.Judged.{AreRead}
 use Rattle.ja_reading.proofs.Places.{in_front, kept, last, push_cases}
-use Rattle.ja_supertypes.specs.Faults.{IsFirst}
 
 -- no file spells no class
 pub no_classes : AreClassesOf [] []

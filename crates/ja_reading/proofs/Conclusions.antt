@@ -1,18 +1,17 @@
 -- What files that were judged one by one come to together.
-use Rattle.std.proofs.Common.{◌≡◌, ℕ, List, Option, Some, None, refl, ap, sym, ◌∙◌, subst}
+use Rattle.std.proofs.Common.{◌≡◌, ℕ, List, Option, Some, None, sym, subst}
 use Rattle.std.specs.Prelude.{bytes_eq}
 use Rattle.ja_base.specs.declared.file.File.{File}
 use Rattle.ja_base.specs.declared.refusal.Refusal.{Refusal}
 use Rattle.ja_class.specs.Meaning.{ClassSpelled}
 use Rattle.ja_lib.specs.Content.{Content}
 use Rattle.ja_lib.specs.Defaults.{default_content}
-use Rattle.ja_lower.specs.Accept.{AreClassesOf, AreRead, HasTable, IsTableRefused, of_class, of_files, of_table, of_whole, Refuses}
-use Rattle.ja_lower.specs.Folder.{AreInOrder, class_files, is_class_file, IsReadable, names_of, read_files, table_name}
+use Rattle.ja_lower.specs.Accept.{HasTable, of_class, of_files, of_table, of_whole, Refuses}
+use Rattle.ja_lower.specs.Folder.{AreInOrder, class_files, is_class_file, IsReadable, read_files, table_name}
 use Rattle.ja_lower.specs.Program.{IsProgramOf, IsRefusedWhole}
-use Rattle.ja_reading.specs.Judged.{AreClassesRead, AreJudged, AreRead as AreReadSoFar, IsTableRead}
+use Rattle.ja_reading.specs.Judged.{AreJudged, AreRead as AreReadSoFar, IsTableRead}
 use Rattle.ja_reading.specs.Judgement.{ComesTo, ComesUnder, ComesUnderSo, IsLowered}
 use Rattle.ja_reading.specs.Unread.{AreReadable}
-use Rattle.ja_reading.specs.declared.judged.ClassesRead.{ClassesRead}
 use Rattle.ja_reading.specs.declared.judged.Judged.{Judged}
 use Rattle.ja_reading.specs.declared.judged.TableRead.TheVariants.{Absent, Own, Wrong}
 use Rattle.ja_reading.specs.declared.judgement.Judgement.{Judgement}

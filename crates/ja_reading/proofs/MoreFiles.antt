@@ -1,7 +1,6 @@
 -- What is known once one file more is judged.
-use Rattle.std.proofs.Common.{◌≡◌, ℕ, ◌+◌, ◌<◌, ◌≤◌, ◌⊎◌, inl, inr, Bool, true, false, true≢false, cond, List, [], ◌∷◌, ◌++◌, length, map, Option, Some, None, refl, ap, sym, ◌∙◌, subst, arith, append-nil}
+use Rattle.std.proofs.Common.{◌≡◌, ℕ, ◌+◌, ◌≤◌, ◌⊎◌, inl, inr, Bool, true, false, true≢false, cond, List, [], ◌∷◌, ◌++◌, length, Option, Some, None, refl, ap, sym, ◌∙◌, subst, arith, append-nil}
 use Rattle.std.specs.Prelude.{is_some}
-use Rattle.std.specs.List.{filter}
 use Rattle.std.proofs.lemmas.List.{map-append}
 use Rattle.std.proofs.lemmas.List.Elements.{filter-append}
 use Rattle.ja_base.specs.declared.file.File.{File}
@@ -11,13 +10,12 @@ use Rattle.ja_class.specs.declared.fault.ClassFault.TheVariants as faults
 use Rattle.ja_class.specs.Meaning.{ClassSpelled}
 use Rattle.ja_class.specs.ClassFile.{IsClass}
 use Rattle.ja_class.specs.ClassFault.{IsFault}
-use Rattle.ja_lower.specs.Folder.{class_files, is_class_file, names_of, table_name}
+use Rattle.ja_lower.specs.Folder.{class_files, is_class_file, names_of}
 use Rattle.ja_lower.specs.Accept.{AreClassesOf}
 use Rattle.ja_lower.specs.Refusals.{class_refusal}
 use Rattle.ja_reading.specs.Judged.{AreClassesRead, AreJudged, AreRead, IsTableRead, bytes_of}
 use Rattle.ja_reading.specs.declared.judged.ClassesRead.{ClassesRead}
 use Rattle.ja_reading.specs.declared.judged.Judged.{Judged}
-use Rattle.ja_reading.specs.declared.judged.TableRead.{TableRead}
 use Rattle.ja_reading.proofs.Classes.{classes_more, first_refused, refusal_more}
 use Rattle.ja_reading.proofs.Lengths.{bytes_more, next_short}
 use Rattle.ja_reading.proofs.Tables.{behind_other, other_name}

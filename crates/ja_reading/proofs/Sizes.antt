@@ -1,22 +1,22 @@
 -- A class declares no more fields, methods and instructions than its file has bytes.
-use Rattle.std.proofs.Common.{◌≡◌, ℕ, zero, suc, ◌+◌, ◌<◌, ◌≤◌, Bool, true, false, cond, List, [], ◌∷◌, ◌++◌, length, map, codes, Option, Some, None, refl, ap, sym, ◌∙◌, arith, length-append}
+use Rattle.std.proofs.Common.{◌≡◌, ℕ, ◌+◌, ◌≤◌, Bool, true, false, cond, List, [], ◌∷◌, ◌++◌, length, codes, Option, Some, None, refl, ap, arith, length-append}
 use Rattle.std.specs.Prelude.{sum_by}
 use Rattle.std.specs.List.{filter, flat_map}
 use Rattle.std.proofs.lemmas.List.{map-append}
 use Rattle.std.proofs.lemmas.List.Sums.{sum_by-append}
-use Rattle.ja_attributes.specs.Attribute.{AttributeInfo, attribute_bytes, attributes_bytes, code_bytes, IsCode, named, SayCode}
+use Rattle.ja_attributes.specs.Attribute.{AttributeInfo, attribute_bytes, code_bytes, IsCode, named, SayCode}
 use Rattle.ja_attributes.specs.declared.code.MethodCode.{MethodCode}
-use Rattle.ja_class.specs.ClassFile.{AreFields, AreMethods, ClassFile, IsClass, IsFieldInfo, IsMethodInfo, member_bytes, MemberInfo, Says, spelling}
+use Rattle.ja_class.specs.ClassFile.{AreFields, AreMethods, ClassFile, IsClass, member_bytes, MemberInfo, spelling}
 use Rattle.ja_class.specs.Meaning.{ClassSpelled, code_said, needs_code}
 use Rattle.ja_class.specs.declared.class.ClassMethod.{ClassMethod}
 use Rattle.ja_code.specs.Grammar.{AreInstrs}
 use Rattle.ja_code.specs.declared.instr.RawInstr.{RawInstr}
 use Rattle.ja_code.proofs.Complete.{instr_length}
 use Rattle.ja_hier.specs.declared.starts.Member.TheVariants.{Field, Method}
-use Rattle.ja_hier.specs.Members.{count_of, IsNumbered}
+use Rattle.ja_hier.specs.Members.{count_of}
 use Rattle.ja_ir.specs.declared.head.HeadField.{HeadField}
 use Rattle.ja_ir.specs.declared.head.HeadMethod.{HeadMethod}
-use Rattle.ja_lower.specs.Program.{AreFew, code_length, heads_of, instruction_count}
+use Rattle.ja_lower.specs.Program.{AreFew, code_length, heads_of}
 use Rattle.ja_pool.specs.Table.{Table}
 use Rattle.ja_reading.specs.Sizes.{AreWithin}
 

@@ -1,13 +1,13 @@
 -- What the names of files say before any is read.
-use Rattle.std.proofs.Common.{◌≡◌, ℕ, zero, suc, ◌+◌, ◌<◌, ◌≤◌, inl, inr, Bool, true, false, cond, List, [], ◌∷◌, length, map, Option, Some, None, refl, ap, sym, ◌∙◌, arith}
+use Rattle.std.proofs.Common.{◌≡◌, ℕ, zero, suc, ◌<◌, ◌≤◌, inl, inr, Bool, true, false, cond, List, [], ◌∷◌, length, Some, None, refl, ap, sym, ◌∙◌, arith}
 use Rattle.std.specs.Prelude.{IsPermutation, count_by, slice_get}
 use Rattle.std.specs.List.{filter, find}
 use Rattle.std.proofs.lemmas.List.Sorted.{sum_by-IsPermutation}
 use Rattle.std.proofs.lemmas.List.Sums.{length-filter, sum_by-cons}
 use Rattle.ja_base.specs.declared.file.File.{File}
-use Rattle.ja_base.specs.declared.refusal.Refusal.TheVariants.{Archive, TooManyFiles}
-use Rattle.ja_lower.specs.Folder.{class_files, is_archive, is_class_file, IsArchiveAt, IsRefusedUnread, archive, too_many_files, names_of}
-use Rattle.ja_reading.specs.Unread.{AreReadable, AreRefused}
+use Rattle.ja_base.specs.declared.refusal.Refusal.TheVariants.{Archive}
+use Rattle.ja_lower.specs.Folder.{class_files, is_archive, is_class_file, IsArchiveAt, IsRefusedUnread, archive, names_of}
+use Rattle.ja_reading.specs.Unread.{AreRefused}
 use Rattle.ja_supertypes.specs.Faults.{IsFirst, IsNowhere}
 
 -- one file more in front

@@ -1,4 +1,4 @@
-use Rattle.std.proofs.Common.{◌≡◌, ◌+◌, ◌≤◌, ℕ, List, Some, IfSome, ap, sym, ◌∙◌, subst, arith}
+use Rattle.std.proofs.Common.{◌≡◌, ◌≤◌, Some, IfSome, ap, sym, ◌∙◌, subst, arith}
 use Rattle.std.specs.Prelude.{IsPermutation, count_by}
 use Rattle.std.proofs.lemmas.Result.{IfOk-weaker}
 use Rattle.ja_io.specs.Contents.{Contents, HasDistinctNames, names_of}

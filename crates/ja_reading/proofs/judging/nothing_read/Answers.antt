@@ -1,4 +1,4 @@
-use Rattle.std.proofs.Common.{◌≡◌, ◌<◌, List, [], length, refl, sym, subst, arith}
+use Rattle.std.proofs.Common.{◌<◌, List, [], refl, sym, subst, arith}
 use Rattle.ja_class.specs.Meaning.{ClassSpelled}
 use Rattle.ja_lower.specs.Accept.{AreClassesOf}
 use Rattle.ja_reading.proofs.Classes.{no_classes}

@@ -1,4 +1,4 @@
-use Rattle.std.proofs.Common.{◌≡◌, List, ℕ, sym, subst}
+use Rattle.std.proofs.Common.{List, ℕ, sym, subst}
 use Rattle.ja_lib.specs.File.{IsFaultOf, IsTableFile}
 use Rattle.ja_reading.proofs.Tables.{own_table, wrong_table}
 use Rattle.ja_reading.proofs.judging.table_of.Goals as goal

@@ -1,4 +1,4 @@
-use Rattle.std.proofs.Common.{◌≡◌, ◌≤◌, ◌+◌, ℕ, length, refl, ap, sym, ◌∙◌, arith}
+use Rattle.std.proofs.Common.{◌≡◌, ◌+◌, ℕ, length, refl, ap, sym, ◌∙◌, arith}
 use Rattle.ja_lower.specs.Folder.{class_files, is_class_file}
 use Rattle.ja_reading.proofs.MoreFiles.{judged_class}
 use Rattle.ja_reading.proofs.judging.with_next_class.Goals as goal

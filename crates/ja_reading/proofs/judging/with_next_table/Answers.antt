@@ -1,4 +1,4 @@
-use Rattle.std.proofs.Common.{◌≡◌, ◌≤◌, ◌+◌, ◌++◌, ◌∷◌, [], ℕ, List, false, length, refl, ap, sym, ◌∙◌, subst, arith}
+use Rattle.std.proofs.Common.{◌≡◌, ◌+◌, ◌++◌, ◌∷◌, [], ℕ, false, length, refl, ap, sym, ◌∙◌, subst, arith}
 use Rattle.ja_lower.specs.Folder.{is_class_file, table_name}
 use Rattle.ja_reading.specs.Judged.{IsTableRead}
 use Rattle.ja_reading.specs.declared.judged.TableRead.{TableRead}

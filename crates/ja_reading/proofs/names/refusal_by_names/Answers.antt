@@ -1,8 +1,8 @@
-use Rattle.std.proofs.Common.{◌≡◌, ◌<◌, ◌≤◌, ℕ, List, None, length, refl, ap, sym, ◌∙◌, subst, arith}
+use Rattle.std.proofs.Common.{◌≡◌, ℕ, List, length, ap, sym, ◌∙◌, subst, arith}
 use Rattle.std.specs.Prelude.{count_by}
 use Rattle.std.specs.List.{find}
 use Rattle.ja_base.specs.declared.refusal.Refusal.TheVariants.{Archive, TooManyFiles}
-use Rattle.ja_lower.specs.Folder.{IsRefusedUnread, class_files, is_archive, is_class_file, names_of, too_many_files}
+use Rattle.ja_lower.specs.Folder.{IsRefusedUnread, class_files, is_archive, is_class_file, too_many_files}
 use Rattle.ja_reading.proofs.Unread.{class_count, no_archive, not_refused, refused_archive}
 use Rattle.ja_reading.proofs.names.refusal_by_names.Goals as goal
 

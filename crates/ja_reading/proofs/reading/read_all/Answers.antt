@@ -1,4 +1,4 @@
-use Rattle.std.proofs.Common.{◌≡◌, ◌<◌, ◌≤◌, ℕ, Option, Result, Ok, Err, length, refl, sym, ◌∙◌, subst, arith}
+use Rattle.std.proofs.Common.{◌≡◌, ◌<◌, ℕ, Option, Result, Ok, Err, length, refl, sym, ◌∙◌, subst, arith}
 use Rattle.ja_base.specs.declared.refusal.Refusal.{Refusal}
 use Rattle.ja_io.specs.Contents.{Contents}
 use Rattle.ja_reading.specs.declared.judged.Judged.{Judged}

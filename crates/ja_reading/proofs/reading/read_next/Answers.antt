@@ -1,4 +1,4 @@
-use Rattle.std.proofs.Common.{◌≡◌, ◌+◌, Contains, sym, ◌∙◌, take}
+use Rattle.std.proofs.Common.{◌≡◌, Contains, sym, ◌∙◌, take}
 use Rattle.ja_base.specs.declared.file.File.{File}
 use Rattle.ja_io.specs.Contents.{Contents}
 use Rattle.ja_lower.specs.Folder.{read_files}
