@@ -4,3 +4,5 @@ pub mod Leading
 pub mod Aiming
 pub mod Remembering
 pub mod Passing
+
+pub mod Asking

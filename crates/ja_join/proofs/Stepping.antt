@@ -35,7 +35,7 @@ pub ascend_later : (size from next : ℕ) (m : Move) (moves : List Move) → Asc
 ascend_later size from next m moves up le = (le, up.1)
 
 -- a function of low variables stays one
-low_fixed : (v : ℕ) (c : Bool) (φ : Function) → IsLow φ → IsLow (fixed v c φ)
+pub low_fixed : (v : ℕ) (c : Bool) (φ : Function) → IsLow φ → IsLow (fixed v c φ)
 low_fixed v c φ low a b agree = low (with_var a v c) (with_var b v c) (λ u le. dite (ℕ_discrete u v)
     (λ e. ap (with_var a v c) e ∙ with_var_here a v c ∙ sym (with_var_here b v c) ∙ ap (with_var b v c) (sym e))
     (λ ne. with_var_other a v c u ne ∙ agree u le ∙ sym (with_var_other b v c u ne)))

@@ -1,9 +1,13 @@
 -- Words of the private functions: what a step makes from some place on, and what was noted.
 use Rattle.std.specs.Prelude.{◌≡◌, ℕ, false, suc, ◌+◌, ◌<◌, ◌≤◌, ◌&&◌, ◌||◌, Bool, true, List, [], ◌∷◌, Some, slice_get, drop}
+use Rattle.ja_node_core.specs.declared.aim.Aim.{Ghosts}
 use Rattle.ja_node_core.specs.Tree.{Tree, Assignment}
 use Rattle.ja_node_core.specs.Node.{Words, Knows}
+use Rattle.ja_node_table.specs.declared.table.NodeTable.{NodeTable}
+use Rattle.ja_bdd.specs.declared.worker.Worker.{Worker}
 use Rattle.ja_bdd.specs.Functions.{Function, fixed, either, IsFree, IsFrom, IsAimed}
-use Rattle.ja_bdd.specs.Meaning.{meaning, IsMeant}
+use Rattle.ja_bdd.specs.Meaning.{meaning, IsMeant, Keeps}
+use Rattle.ja_bdd.specs.Workers.{IsWorkerOf, seen}
 use Rattle.ja_join.specs.declared.rule.States.{States}
 use Rattle.ja_join.specs.declared.rule.Move.{Move}
 use Rattle.ja_join.specs.declared.rule.Rule.{Rule}
@@ -32,6 +36,10 @@ moved_to accepted m moves s after low high = either (stepped accepted moves (nex
 abbrev pub IsUntouched : (size : ℕ) → Function → ℕ → Type 0
 IsUntouched size φ v = (is_present size v ≡ false) × IsFree v φ
 
+-- what a move makes of a function where its slot has this truth after it
+abbrev pub parted : (accepted : States) → Move → List Move → States → (after : Bool) → Function → Function
+parted accepted m moves s after φ = moved_to accepted m moves s after (fixed (present m.place) false φ) (fixed (present m.place) true φ)
+
 -- the same of two functions
 abbrev pub IsUntouchedByBoth : (size : ℕ) → (φ ψ : Function) → ℕ → Type 0
 IsUntouchedByBoth size φ ψ v = (is_present size v ≡ false) × (IsFree v φ × IsFree v ψ)
@@ -48,3 +56,19 @@ AreRight rule k memo = (i : ℕ) (e : Noted) → slice_get memo.entries.items i 
 -- the memo has this answer
 abbrev pub HasNoted : Memo → (at : ℕ) → States → (asked made : ℕ) → Type 0
 HasNoted memo at s asked made = (i : ℕ) × (e : Noted) × (slice_get memo.entries.items i ≡ Some e) × (e.call ≡ memo.call) × (e.at ≡ at) × (e.states ≡ s) × (e.asked.number ≡ asked) × (e.made.number ≡ made)
+
+module _ {A : Type 0} {G : Ghosts A} (t : NodeTable A) where
+  -- what a part of a pass is asked: a known node that looks at no variable before some one, from which on the moves rise, of which each part of what is made is of the aim; and what is noted is right
+  pub record IsAsked (aim : Tree → Type 0) (rule : Rule) (at : ℕ) (s : States) (from : ℕ) (w : Worker A G) (memo : Memo) (r : ℕ) : Type 0 where
+    pub worker : IsWorkerOf t w
+    pub known : Knows (seen w) r
+    pub later : IsFrom from (meaning (seen w) r)
+    pub ascending : AscendFrom rule.size from (drop at rule.moves.items)
+    pub right : AreRight rule (seen w) memo
+    pub aimed : AreAimed aim (IsUntouched rule.size (meaning (seen w) r)) from (stepped_from rule at s (meaning (seen w) r))
+
+  -- what a part of a pass leaves: a worker that keeps what it knew, and what is noted is right
+  pub record IsMade (rule : Rule) (old new : Worker A G) (memo : Memo) : Type 0 where
+    pub worker : IsWorkerOf t new
+    pub keeps : Keeps (seen old) (seen new)
+    pub right : AreRight rule (seen new) memo

@@ -1,12 +1,12 @@
-ghost use Rattle.std.specs.Prelude.{◌≡◌, ◌≢◌, ℕ, ◌+◌, ◌*◌, ◌<◌, ◌≤◌, ◌∷◌, drop, length, IfOk, IfErr};
+ghost use Rattle.std.specs.Prelude.{◌≡◌, ◌≢◌, ℕ, ◌+◌, ◌*◌, ◌<◌, ◌≤◌, ◌∷◌, Bool, None, drop, length, IfOk, IfErr, IfSome};
 ghost use Rattle.ja_node_core.specs.Node.{Knows};
 ghost use Rattle.ja_node_table.specs.Seats.{aim_of};
-ghost use Rattle.ja_bdd.specs.Functions.{Function, IsFrom};
+ghost use Rattle.ja_bdd.specs.Functions.{Function};
 ghost use Rattle.ja_bdd.specs.Meaning.{meaning, IsMeant, Keeps, IsHalved};
 ghost use Rattle.ja_bdd.specs.Workers.{IsWorkerOf, seen};
-ghost use Rattle.ja_join.specs.Ascending.{present, AscendFrom};
+ghost use Rattle.ja_join.specs.Ascending.{present};
 ghost use Rattle.ja_join.specs.Steps.{IsStep, ArePartsAimed, LacksRoomAmong};
-ghost use Rattle.ja_join.specs.Inner.{stepped_from, moved_to, IsUntouched, IsUntouchedByBoth, AreAimed, AreRight};
+ghost use Rattle.ja_join.specs.Inner.{stepped_from, parted, AreRight, IsAsked, IsMade};
 
 use crate::memo::Memo;
 use crate::rule::{Move, Rule, States};
@@ -55,9 +55,38 @@ fn cut_at<A: Aim>(worker: &mut Worker<A>, table: &NodeTable<A>, r: Node, now: u3
     }
 }
 
+/// What the moves of a rule from one on make of a known node, if that is at hand.
+fn at_hand<A: Aim>(
+    worker: &Worker<A>,
+    memo: &Memo,
+    rule: &Rule,
+    at: usize,
+    states: States,
+    r: Node,
+) -> Option<Node>
+    requires known { Knows (seen worker.now) r.number }
+    requires at { at ≤ length rule.now.moves.items }
+    requires memo { AreRight rule.now (seen worker.now) memo.now }
+    ensures some { IfSome result (λ n. IsMeant (seen worker.now) n.number (stepped_from rule.now at states (meaning (seen worker.now) r.number))) }
+    ensures none { result ≡ None → at < length rule.now.moves.items }
+{
+    if states.is_dead() {
+        return Some(Node::FALSE);
+    }
+    if r.number == 0 {
+        return Some(r);
+    }
+    if at == rule.moves.len() {
+        if states.is_accepted(rule.accepted) {
+            return Some(r);
+        }
+        return Some(Node::FALSE);
+    }
+    memo.find(at, states, r)
+}
+
 /// What the moves of a rule from one on make of a known node, which looks at no variable before `from`.
 #[cycle(step)]
-#[tactic(none)]
 fn step_from<A: Aim>(
     worker: &mut Worker<A>,
     memo: &mut Memo,
@@ -68,46 +97,28 @@ fn step_from<A: Aim>(
     from: u32,
     r: Node,
 ) -> Result<Node, Full<A>>
-    requires worker { IsWorkerOf table.now worker.old }
-    requires known { Knows (seen worker.old) r.number }
-    requires from { (from ≤ 4095) × IsFrom from (meaning (seen worker.old) r.number) }
-    requires moves { (at ≤ length rule.now.moves.items) × AscendFrom rule.now.size from (drop at rule.now.moves.items) }
-    requires memo { AreRight rule.now (seen worker.old) memo.old }
-    requires aim { AreAimed (A.aims (aim_of table.now)) (IsUntouched rule.now.size (meaning (seen worker.old) r.number)) from (stepped_from rule.now at states (meaning (seen worker.old) r.number)) }
-    ensures worker { IsWorkerOf table.now worker.new }
-    ensures keeps { Keeps (seen worker.old) (seen worker.new) }
-    ensures memo { AreRight rule.now (seen worker.new) memo.new }
+    requires asked { IsAsked table.now (A.aims (aim_of table.now)) rule.now at states from worker.old memo.old r.number }
+    requires from { from ≤ 4095 }
+    requires at { at ≤ length rule.now.moves.items }
+    ensures made { IsMade table.now rule.now worker.old worker.new memo.new }
     ensures ok { IfOk result (λ n. IsMeant (seen worker.new) n.number (stepped_from rule.now at states (meaning (seen worker.old) r.number))) }
     ensures full { IfErr result (LacksRoomAmong table.now (seen worker.new) (stepped_from rule.now at states (meaning (seen worker.old) r.number))) }
 {
-    if states.is_dead() || r == Node::FALSE {
-        return Ok(Node::FALSE);
-    }
-    if at == rule.moves.len() {
-        return if states.is_accepted(rule.accepted) {
-            Ok(r)
-        } else {
-            Ok(Node::FALSE)
-        };
-    }
-    if let Some(n) = memo.find(at, states, r) {
+    if let Some(n) = at_hand(worker, memo, rule, at, states, r) {
         return Ok(n);
     }
     let step = rule.moves[at];
     let cut = cut_at(worker, table, r, 4 * step.place + 1);
-    let made = step_cut(worker, memo, table, rule, at, states, step, r, cut);
-    match made {
-        Ok(made) => {
-            memo.keep(at, states, r, made);
-            Ok(made)
-        }
-        Err(full) => Err(full),
-    }
+    let made = match step_cut(worker, memo, table, rule, at, states, step, r, cut) {
+        Ok(made) => made,
+        Err(full) => return Err(full),
+    };
+    memo.keep(at, states, r, made);
+    Ok(made)
 }
 
 /// What the moves make of a node that is cut before the next move's slot, or at it.
 #[cycle(step)]
-#[tactic(none)]
 fn step_cut<A: Aim>(
     worker: &mut Worker<A>,
     memo: &mut Memo,
@@ -119,30 +130,25 @@ fn step_cut<A: Aim>(
     r: Node,
     cut: Cut,
 ) -> Result<Node, Full<A>>
-    requires worker { IsWorkerOf table.now worker.old }
-    requires known { Knows (seen worker.old) r.number }
+    requires asked { IsAsked table.now (A.aims (aim_of table.now)) rule.now at states cut.var worker.old memo.old r.number }
     requires halved { IsHalved (seen worker.old) cut.var r.number cut.low.number cut.high.number }
+    requires small { cut.var ≤ 4094 }
     requires var { cut.var ≤ present step.place }
     requires apart { cut.var < present step.place → cut.low.number ≢ cut.high.number }
-    requires next { (at < length rule.now.moves.items) × (drop at rule.now.moves.items ≡ step ∷ drop (at + 1) rule.now.moves.items) }
-    requires moves { AscendFrom rule.now.size cut.var (drop at rule.now.moves.items) }
-    requires memo { AreRight rule.now (seen worker.old) memo.old }
-    requires aim { AreAimed (A.aims (aim_of table.now)) (IsUntouched rule.now.size (meaning (seen worker.old) r.number)) cut.var (stepped_from rule.now at states (meaning (seen worker.old) r.number)) }
-    ensures worker { IsWorkerOf table.now worker.new }
-    ensures keeps { Keeps (seen worker.old) (seen worker.new) }
-    ensures memo { AreRight rule.now (seen worker.new) memo.new }
+    requires next { drop at rule.now.moves.items ≡ step ∷ drop (at + 1) rule.now.moves.items }
+    requires at { at < length rule.now.moves.items }
+    ensures made { IsMade table.now rule.now worker.old worker.new memo.new }
     ensures ok { IfOk result (λ n. IsMeant (seen worker.new) n.number (stepped_from rule.now at states (meaning (seen worker.old) r.number))) }
     ensures full { IfErr result (LacksRoomAmong table.now (seen worker.new) (stepped_from rule.now at states (meaning (seen worker.old) r.number))) }
 {
     if cut.var < 4 * step.place + 1 {
         return step_kept(worker, memo, table, rule, at, states, step, r, cut);
     }
-    step_moved(worker, memo, table, rule, at, states, step, r, cut)
+    step_moved(worker, memo, table, rule, at, states, step, r, cut.low, cut.high)
 }
 
 /// What the moves make of a node whose first variable comes before the next move's slot.
 #[cycle(step)]
-#[tactic(none)]
 fn step_kept<A: Aim>(
     worker: &mut Worker<A>,
     memo: &mut Memo,
@@ -154,18 +160,14 @@ fn step_kept<A: Aim>(
     r: Node,
     cut: Cut,
 ) -> Result<Node, Full<A>>
-    requires worker { IsWorkerOf table.now worker.old }
-    requires known { Knows (seen worker.old) r.number }
+    requires asked { IsAsked table.now (A.aims (aim_of table.now)) rule.now at states cut.var worker.old memo.old r.number }
     requires halved { IsHalved (seen worker.old) cut.var r.number cut.low.number cut.high.number }
+    requires small { cut.var ≤ 4094 }
     requires var { cut.var < present step.place }
     requires apart { cut.low.number ≢ cut.high.number }
-    requires next { (at < length rule.now.moves.items) × (drop at rule.now.moves.items ≡ step ∷ drop (at + 1) rule.now.moves.items) }
-    requires moves { AscendFrom rule.now.size cut.var (drop at rule.now.moves.items) }
-    requires memo { AreRight rule.now (seen worker.old) memo.old }
-    requires aim { AreAimed (A.aims (aim_of table.now)) (IsUntouched rule.now.size (meaning (seen worker.old) r.number)) cut.var (stepped_from rule.now at states (meaning (seen worker.old) r.number)) }
-    ensures worker { IsWorkerOf table.now worker.new }
-    ensures keeps { Keeps (seen worker.old) (seen worker.new) }
-    ensures memo { AreRight rule.now (seen worker.new) memo.new }
+    requires next { drop at rule.now.moves.items ≡ step ∷ drop (at + 1) rule.now.moves.items }
+    requires at { at < length rule.now.moves.items }
+    ensures made { IsMade table.now rule.now worker.old worker.new memo.new }
     ensures ok { IfOk result (λ n. IsMeant (seen worker.new) n.number (stepped_from rule.now at states (meaning (seen worker.old) r.number))) }
     ensures full { IfErr result (LacksRoomAmong table.now (seen worker.new) (stepped_from rule.now at states (meaning (seen worker.old) r.number))) }
 {
@@ -183,7 +185,6 @@ fn step_kept<A: Aim>(
 
 /// What the moves make of a node that is cut at the next move's slot.
 #[cycle(step)]
-#[tactic(none)]
 fn step_moved<A: Aim>(
     worker: &mut Worker<A>,
     memo: &mut Memo,
@@ -193,36 +194,33 @@ fn step_moved<A: Aim>(
     states: States,
     step: Move,
     r: Node,
-    cut: Cut,
+    low: Node,
+    high: Node,
 ) -> Result<Node, Full<A>>
-    requires worker { IsWorkerOf table.now worker.old }
-    requires known { Knows (seen worker.old) r.number }
-    requires halved { IsHalved (seen worker.old) cut.var r.number cut.low.number cut.high.number }
-    requires var { cut.var ≡ present step.place }
-    requires next { (at < length rule.now.moves.items) × (drop at rule.now.moves.items ≡ step ∷ drop (at + 1) rule.now.moves.items) }
-    requires moves { AscendFrom rule.now.size cut.var (drop at rule.now.moves.items) }
-    requires memo { AreRight rule.now (seen worker.old) memo.old }
-    requires aim { AreAimed (A.aims (aim_of table.now)) (IsUntouched rule.now.size (meaning (seen worker.old) r.number)) cut.var (stepped_from rule.now at states (meaning (seen worker.old) r.number)) }
-    ensures worker { IsWorkerOf table.now worker.new }
-    ensures keeps { Keeps (seen worker.old) (seen worker.new) }
-    ensures memo { AreRight rule.now (seen worker.new) memo.new }
+    requires asked { IsAsked table.now (A.aims (aim_of table.now)) rule.now at states (present step.place) worker.old memo.old r.number }
+    requires halved { IsHalved (seen worker.old) (present step.place) r.number low.number high.number }
+    requires small { present step.place ≤ 4094 }
+    requires next { drop at rule.now.moves.items ≡ step ∷ drop (at + 1) rule.now.moves.items }
+    requires at { at < length rule.now.moves.items }
+    ensures made { IsMade table.now rule.now worker.old worker.new memo.new }
     ensures ok { IfOk result (λ n. IsMeant (seen worker.new) n.number (stepped_from rule.now at states (meaning (seen worker.old) r.number))) }
     ensures full { IfErr result (LacksRoomAmong table.now (seen worker.new) (stepped_from rule.now at states (meaning (seen worker.old) r.number))) }
 {
-    let low = match step_to(worker, memo, table, rule, at, states, step, cut, false) {
-        Ok(low) => low,
+    let made = step_to(worker, memo, table, rule, at, states, step, r, low, high, false);
+    let below = match made {
+        Ok(below) => below,
         Err(full) => return Err(full),
     };
-    let high = match step_to(worker, memo, table, rule, at, states, step, cut, true) {
-        Ok(high) => high,
+    let made = step_to(worker, memo, table, rule, at, states, step, r, low, high, true);
+    let above = match made {
+        Ok(above) => above,
         Err(full) => return Err(full),
     };
-    worker.make(table, cut.var, low, high)
+    worker.make(table, 4 * step.place + 1, below, above)
 }
 
-/// What the moves make where the next move's slot has this truth after it.
+/// What the moves make of such a node where the next move's slot has this truth after it.
 #[cycle(step)]
-#[tactic(none)]
 fn step_to<A: Aim>(
     worker: &mut Worker<A>,
     memo: &mut Memo,
@@ -231,31 +229,28 @@ fn step_to<A: Aim>(
     at: usize,
     states: States,
     step: Move,
-    cut: Cut,
+    r: Node,
+    low: Node,
+    high: Node,
     after: bool,
 ) -> Result<Node, Full<A>>
-    requires worker { IsWorkerOf table.now worker.old }
-    requires known { Knows (seen worker.old) cut.low.number × Knows (seen worker.old) cut.high.number }
-    requires later { IsFrom (cut.var + 1) (meaning (seen worker.old) cut.low.number) × IsFrom (cut.var + 1) (meaning (seen worker.old) cut.high.number) }
-    requires var { cut.var ≤ 4094 }
-    requires next { at < length rule.now.moves.items }
-    requires moves { AscendFrom rule.now.size (cut.var + 1) (drop (at + 1) rule.now.moves.items) }
-    requires memo { AreRight rule.now (seen worker.old) memo.old }
-    requires aim { AreAimed (A.aims (aim_of table.now)) (IsUntouchedByBoth rule.now.size (meaning (seen worker.old) cut.low.number) (meaning (seen worker.old) cut.high.number)) (cut.var + 1) (moved_to rule.now.accepted step (drop (at + 1) rule.now.moves.items) states after (meaning (seen worker.old) cut.low.number) (meaning (seen worker.old) cut.high.number)) }
-    ensures worker { IsWorkerOf table.now worker.new }
-    ensures keeps { Keeps (seen worker.old) (seen worker.new) }
-    ensures memo { AreRight rule.now (seen worker.new) memo.new }
-    ensures ok { IfOk result (λ n. IsMeant (seen worker.new) n.number (moved_to rule.now.accepted step (drop (at + 1) rule.now.moves.items) states after (meaning (seen worker.old) cut.low.number) (meaning (seen worker.old) cut.high.number))) }
-    ensures full { IfErr result (LacksRoomAmong table.now (seen worker.new) (moved_to rule.now.accepted step (drop (at + 1) rule.now.moves.items) states after (meaning (seen worker.old) cut.low.number) (meaning (seen worker.old) cut.high.number))) }
+    requires asked { IsAsked table.now (A.aims (aim_of table.now)) rule.now at states (present step.place) worker.old memo.old r.number }
+    requires halved { IsHalved (seen worker.old) (present step.place) r.number low.number high.number }
+    requires small { present step.place ≤ 4094 }
+    requires next { drop at rule.now.moves.items ≡ step ∷ drop (at + 1) rule.now.moves.items }
+    requires at { at < length rule.now.moves.items }
+    ensures made { IsMade table.now rule.now worker.old worker.new memo.new }
+    ensures ok { IfOk result (λ n. IsMeant (seen worker.new) n.number (parted rule.now.accepted step (drop (at + 1) rule.now.moves.items) states after (meaning (seen worker.old) r.number))) }
+    ensures full { IfErr result (LacksRoomAmong table.now (seen worker.new) (parted rule.now.accepted step (drop (at + 1) rule.now.moves.items) states after (meaning (seen worker.old) r.number))) }
 {
-    let from = cut.var + 1;
+    let from = 4 * step.place + 2;
     let kept = states.next(&step, false, after);
-    let first = match step_from(worker, memo, table, rule, at + 1, kept, from, cut.low) {
+    let first = match step_from(worker, memo, table, rule, at + 1, kept, from, low) {
         Ok(first) => first,
         Err(full) => return Err(full),
     };
     let kept = states.next(&step, true, after);
-    let second = match step_from(worker, memo, table, rule, at + 1, kept, from, cut.high) {
+    let second = match step_from(worker, memo, table, rule, at + 1, kept, from, high) {
         Ok(second) => second,
         Err(full) => return Err(full),
     };
