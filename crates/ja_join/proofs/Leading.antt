@@ -78,3 +78,7 @@ stepped_is rule φ after = (
   (λ is. let x = stepped_leads rule.accepted rule.size 0 rule.moves.items rule.start φ after rule.ascending is in (x.0, record { allowed = x.1; others = x.2 }, x.3)),
   (λ before leads holds. leads_stepped rule.accepted rule.size 0 rule.moves.items rule.start φ after before rule.ascending leads.allowed leads.others holds),
 )
+
+-- what means that is its step
+pub step_meant : (rule : Rule) (φ ψ : Function) → ψ ≡ stepped_from rule 0 rule.start φ → IsStep rule φ ψ
+step_meant rule φ ψ e = subst (IsStep rule φ) (sym e) (stepped_is rule φ)

@@ -29,7 +29,7 @@ module _ (k : Words) (sound : Sound k) (accepted : States) (moves : List Move) (
 
   -- nor behind the last move, where no state may be left
   left_meant : (at : ℕ) (φ : Function) → length moves ≤ at → accepts accepted s ≡ false → IsMeant k 0 (stepped accepted (drop at moves) s φ)
-  left_meant at φ le no = subst (λ rest. IsMeant k 0 (stepped accepted rest s φ)) (sym (drop_all at moves le)) (knows_constant k false, meaning_constant k sound false ∙ sym (λ i a. no i && φ a))
+  left_meant at φ le closed = subst (λ rest. IsMeant k 0 (stepped accepted rest s φ)) (sym (drop_all at moves le)) (knows_constant k false, meaning_constant k sound false ∙ sym (λ i a. closed i && φ a))
 
 pub returns-then-is_dead-clause-some : goal.returns-then-is_dead-clause-some
 returns-then-is_dead-clause-some g c =
