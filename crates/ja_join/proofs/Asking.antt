@@ -84,8 +84,8 @@ module _ {A : Type 0} {G : Ghosts A} (t : NodeTable A) (rule : Rule) where
         let up' = subst (AscendFrom rule.size (present step.place)) next up in
         subst (λ moves. LacksRoomAmong t l (stepped rule.accepted moves s φ) e) (sym next)
         (lacks_more t l e (stepped rule.accepted (step ∷ rest) s φ) (parted rule.accepted step rest s c φ)
-            (λ ξ inner. moved_within rule.accepted rule.size step rest s φ ξ c up'.1.1 inner)
-            (subst (λ χ. LacksRoomAmong t l (parted rule.accepted step rest s c χ) e) same lacks))
+        (λ ξ inner. moved_within rule.accepted rule.size step rest s φ ξ c up'.1.1 inner)
+        (subst (λ χ. LacksRoomAmong t l (parted rule.accepted step rest s c χ) e) same lacks))
 
     pub low_lacks : (at : ℕ) (s s' : States) (step : Move) (φ ψ : Function) (c : Bool) → s' ≡ next_states step false c s → ψ ≡ fixed (present step.place) false φ
         → LacksRoomAmong t l (stepped_from rule (at + 1) s' ψ) e → LacksRoomAmong t l (parted rule.accepted step (drop (at + 1) rule.moves.items) s c φ) e
@@ -133,10 +133,12 @@ module _ {A : Type 0} {G : Ghosts A} (t : NodeTable A) (aim : Tree → Type 0) (
       let rest = drop (at + 1) rule.moves.items in
       let up = subst (AscendFrom rule.size from) next asked.ascending in
       let keeps = keeps_same (seen w) (seen w1) same in
-      let later = cut_later (seen w) (seat_sound w.seat) from v (present step.place) r lo hi asked.later up.0 halved apart in
-      (later, asked_of at s v w1 m r (meaning (seen w) r) of (right_still rule (seen w) (seen w1) m keeps asked.right) (keeps r asked.known) halved.from
-          (subst (AscendFrom rule.size v) (sym next) (ascend_later rule.size from v step rest up le))
-          (later_aimed aim (IsUntouched rule.size (meaning (seen w) r)) from v (stepped_from rule at s (meaning (seen w) r)) later asked.aimed))
+      let later = cut_later (seen w) (seat_sound w.seat) from v (present step.place) r lo hi asked.later up.0 halved apart in (
+        later,
+        asked_of at s v w1 m r (meaning (seen w) r) of (right_still rule (seen w) (seen w1) m keeps asked.right) (keeps r asked.known) halved.from
+            (subst (AscendFrom rule.size v) (sym next) (ascend_later rule.size from v step rest up le))
+            (later_aimed aim (IsUntouched rule.size (meaning (seen w) r)) from v (stepped_from rule at s (meaning (seen w) r)) later asked.aimed),
+      )
 
   -- of either part of a node that was cut before the next move
   pub asked_kept : (at : ℕ) (s : States) (v : ℕ) (step : Move) (w : Worker A G) (m : Memo) (r lo hi : ℕ) → drop at rule.moves.items ≡ step ∷ drop (at + 1) rule.moves.items → v ≤ 4094 → v < present step.place → lo ≢ hi

@@ -4,5 +4,4 @@ pub mod Leading
 pub mod Aiming
 pub mod Remembering
 pub mod Passing
-
 pub mod Asking

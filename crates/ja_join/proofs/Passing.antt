@@ -96,7 +96,7 @@ module _ (accepted : States) (size : ℕ) where
       let still : IsStill moves v = still_before size (v + 1) v moves up (omega arith) in
       child_within v c (stepped accepted (m ∷ moves) s φ) (moved_to accepted m moves s c (fixed v false φ) (fixed v true φ)) ψ
       (free_op (λ p q. p || q) v (stepped accepted moves (next_states m false c s) (fixed v false φ)) (stepped accepted moves (next_states m true c s) (fixed v true φ))
-          (free_stepped accepted moves (next_states m false c s) (fixed v false φ) v still (free_fixed v false φ)) (free_stepped accepted moves (next_states m true c s) (fixed v true φ) v still (free_fixed v true φ)))
+      (free_stepped accepted moves (next_states m false c s) (fixed v false φ) v still (free_fixed v false φ)) (free_stepped accepted moves (next_states m true c s) (fixed v true φ) v still (free_fixed v true φ)))
       (λ a e t. moved_below accepted m moves s φ c a e t) inner
 
 -- why there is no room for a part is why there is none for the whole

@@ -144,7 +144,9 @@ fn step_cut<A: Aim>(
     if cut.var < 4 * step.place + 1 {
         return step_kept(worker, memo, table, rule, at, states, step, r, cut);
     }
-    step_moved(worker, memo, table, rule, at, states, step, r, cut.low, cut.high)
+    step_moved(
+        worker, memo, table, rule, at, states, step, r, cut.low, cut.high,
+    )
 }
 
 /// What the moves make of a node whose first variable comes before the next move's slot.
@@ -206,12 +208,16 @@ fn step_moved<A: Aim>(
     ensures ok { IfOk result (λ n. IsMeant (seen worker.new) n.number (stepped_from rule.now at states (meaning (seen worker.old) r.number))) }
     ensures full { IfErr result (LacksRoomAmong table.now (seen worker.new) (stepped_from rule.now at states (meaning (seen worker.old) r.number))) }
 {
-    let made = step_to(worker, memo, table, rule, at, states, step, r, low, high, false);
+    let made = step_to(
+        worker, memo, table, rule, at, states, step, r, low, high, false,
+    );
     let below = match made {
         Ok(below) => below,
         Err(full) => return Err(full),
     };
-    let made = step_to(worker, memo, table, rule, at, states, step, r, low, high, true);
+    let made = step_to(
+        worker, memo, table, rule, at, states, step, r, low, high, true,
+    );
     let above = match made {
         Ok(above) => above,
         Err(full) => return Err(full),
