@@ -1,13 +1,12 @@
 -- What is asked of an aim goes down to the parts of a node, and why there is no room goes up.
-use Rattle.std.proofs.Common.{◌≡◌, ◌≢◌, ℕ, zero, suc, ◌+◌, ◌*◌, ◌<◌, ◌≤◌, Bool, true, false, refl, sym, ap, ◌∙◌, subst, arith}
-use Rattle.std.specs.Prelude.{◌&&◌, ◌||◌, not}
-use Rattle.std.proofs.lemmas.Bool.{and_parts, or_cases}
+use Rattle.std.proofs.Common.{◌≡◌, ◌≢◌, ℕ, suc, ◌≤◌, Bool, true, false, refl, sym, ap, ◌∙◌, subst, arith}
+use Rattle.std.specs.Prelude.{◌&&◌, not}
+use Rattle.std.proofs.lemmas.Bool.{and_parts}
 use mathlib.Core.Logic.{dite}
 use native.Mathlib.Decide.{ℕ_discrete}
 use Rattle.ja_node_core.specs.Tree.{Tree, Assignment}
 use Rattle.ja_node_core.proofs.Reduced.{with_var_here, with_var_other}
-use Rattle.ja_bdd.specs.Functions.{Function, with_var, fixed, either, IsFree, IsFrom, IsAimed}
-use Rattle.ja_bdd.proofs.Fixing.{with_twice}
+use Rattle.ja_bdd.specs.Functions.{Function, with_var, fixed, IsFree, IsFrom, IsAimed}
 use Rattle.ja_bdd.proofs.Named.{IsSmall, Falls, aimed_parts}
 use Rattle.ja_join.specs.Steps.{IsBelow, IsLow, IsWithin, within, fixing}
 use Rattle.ja_join.specs.Inner.{AreAimed}

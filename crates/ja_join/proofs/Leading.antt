@@ -1,6 +1,5 @@
 -- What moves make of a function is true exactly where the rule may lead to from where the function is true.
-use Rattle.std.proofs.Common.{◌≡◌, ◌≢◌, ℕ, suc, ◌+◌, ◌*◌, ◌<◌, ◌≤◌, Bool, true, false, refl, sym, ap, ◌∙◌, subst, arith, ⊎_elim, List, [], ◌∷◌}
-use Rattle.std.specs.Prelude.{◌&&◌, ◌||◌}
+use Rattle.std.proofs.Common.{◌≡◌, ℕ, ◌+◌, Bool, true, false, refl, sym, ap, ◌∙◌, subst, arith, ⊎_elim, List, [], ◌∷◌}
 use Rattle.std.proofs.lemmas.Bool.{and_parts, and_from, or_cases, or_left, or_right}
 use mathlib.Core.Logic.{dite}
 use native.Mathlib.Decide.{ℕ_discrete}
@@ -13,7 +12,7 @@ use Rattle.ja_join.specs.declared.rule.Move.{Move}
 use Rattle.ja_join.specs.declared.rule.Rule.{Rule}
 use Rattle.ja_join.specs.Ascending.{present, AscendFrom}
 use Rattle.ja_join.specs.Moves.{next_states, accepts, allows}
-use Rattle.ja_join.specs.Steps.{IsStill, Leads, IsStep}
+use Rattle.ja_join.specs.Steps.{IsStill, IsStep}
 use Rattle.ja_join.specs.Inner.{stepped, stepped_from}
 use Rattle.ja_join.proofs.Stepping.{still_before}
 

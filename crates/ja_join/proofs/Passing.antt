@@ -1,16 +1,15 @@
 -- What each part of a pass asks of the next.
-use Rattle.std.proofs.Common.{◌≡◌, ◌≢◌, ℕ, zero, suc, ◌+◌, ◌*◌, ◌<◌, ◌≤◌, Bool, true, false, refl, sym, ap, ◌∙◌, subst, arith, List, [], ◌∷◌}
-use Rattle.std.specs.Prelude.{◌&&◌, ◌||◌}
+use Rattle.std.proofs.Common.{◌≡◌, ℕ, suc, ◌+◌, ◌*◌, ◌<◌, ◌≤◌, Bool, true, false, sym, ap, ◌∙◌, subst, arith, List, ◌∷◌}
+use Rattle.std.specs.Prelude.{◌||◌}
 use Rattle.std.proofs.lemmas.Bool.{or_left, or_right, false≢true, eq-eqb, and_from, lt-ltb}
 use Rattle.ja_node_core.specs.declared.aim.Aim.{Ghosts}
-use Rattle.ja_node_core.specs.Tree.{Tree, Assignment}
-use Rattle.ja_node_core.specs.Node.{Words, Knows}
+use Rattle.ja_node_core.specs.Tree.{Tree}
+use Rattle.ja_node_core.specs.Node.{Words}
 use Rattle.ja_node_table.specs.declared.table.NodeTable.{NodeTable}
 use Rattle.ja_node_table.specs.declared.full.Full.{Full}
-use Rattle.ja_bdd.specs.Functions.{Function, fixed, either, chosen, IsFree, IsFrom, IsAimed}
-use Rattle.ja_bdd.specs.Meaning.{meaning, IsMeant}
+use Rattle.ja_bdd.specs.Functions.{Function, fixed, IsFree, IsFrom, IsAimed}
 use Rattle.ja_bdd.specs.Room.{LacksRoomUnder}
-use Rattle.ja_bdd.proofs.Fixing.{free_fixed, free_still, from_fixed, from_op, free_op}
+use Rattle.ja_bdd.proofs.Fixing.{free_fixed, free_still, from_op, free_op}
 use Rattle.ja_bdd.proofs.Named.{Falls}
 use Rattle.ja_join.specs.declared.rule.States.{States}
 use Rattle.ja_join.specs.declared.rule.Move.{Move}
@@ -18,8 +17,8 @@ use Rattle.ja_join.specs.Ascending.{present, AscendFrom}
 use Rattle.ja_join.specs.Moves.{next_states}
 use Rattle.ja_join.specs.Steps.{IsBelow, IsStill, is_present, IsLow, IsWithin, within, LacksRoomAmong}
 use Rattle.ja_join.specs.Inner.{stepped, moved_to, IsUntouched, IsUntouchedByBoth, AreAimed}
-use Rattle.ja_join.proofs.Stepping.{still_before, free_stepped, from_stepped, looks_stepped, low_stepped, moved_below, kept_below, kept_stepped, moved_stepped}
-use Rattle.ja_join.proofs.Aiming.{child_aimed, less_aimed, within_more, child_within}
+use Rattle.ja_join.proofs.Stepping.{still_before, free_stepped, from_stepped, looks_stepped, low_stepped, moved_below, kept_below}
+use Rattle.ja_join.proofs.Aiming.{child_aimed, less_aimed, child_within}
 
 pub one_more : (v : ℕ) → suc v ≡ v + 1
 one_more v = omega arith

@@ -1,5 +1,7 @@
 -- What moves make of a function, cut at a variable.
-use Rattle.std.proofs.Common.{◌≡◌, ◌≢◌, ℕ, zero, suc, ◌+◌, ◌*◌, ◌<◌, ◌≤◌, Bool, true, false, refl, sym, ap, ◌∙◌, subst, arith, List, [], ◌∷◌}
+use Rattle.std.proofs.Common.{◌≡◌, ℕ, ◌+◌, ◌*◌, ◌<◌, ◌≤◌, Bool, true, false, refl, sym, ap, ◌∙◌, subst, arith, List, [], ◌∷◌, ◌++◌}
+use Rattle.std.specs.List.{All}
+use Rattle.std.proofs.lemmas.List.Elements.{All-head, All-tail}
 use Rattle.std.specs.Prelude.{◌&&◌, ◌||◌, ◌%◌, ◌==◌, not, nat_lt, bit_and, bit_or, if◌then◌else◌}
 use Rattle.std.specs.Int.Bits.{and_zero_l}
 use Rattle.std.proofs.lemmas.Bool.{eq-eqb, lt-ltb, and_from, false≢true}
@@ -7,8 +9,8 @@ use mathlib.Core.Logic.{dite}
 use native.Mathlib.Decide.{ℕ_discrete}
 use Rattle.ja_node_core.specs.Tree.{Assignment}
 use Rattle.ja_node_core.proofs.Reduced.{with_var_here, with_var_other}
-use Rattle.ja_bdd.specs.Functions.{Function, with_var, fixed, either, chosen, IsFree, IsFrom}
-use Rattle.ja_bdd.proofs.Fixing.{with_own, with_swapped, choice, fixed_free, free_still}
+use Rattle.ja_bdd.specs.Functions.{Function, with_var, fixed, chosen, IsFree, IsFrom}
+use Rattle.ja_bdd.proofs.Fixing.{with_own, with_swapped, choice, fixed_free}
 use Rattle.ja_join.specs.declared.rule.States.{States}
 use Rattle.ja_join.specs.declared.rule.Masks.{Masks}
 use Rattle.ja_join.specs.declared.rule.Move.{Move}
@@ -33,6 +35,13 @@ still_outside size from u (m ∷ moves) up out = ((λ e. false≢true (sym out �
 -- moves that begin later begin later than before
 pub ascend_later : (size from next : ℕ) (m : Move) (moves : List Move) → AscendFrom size from (m ∷ moves) → next ≤ present m.place → AscendFrom size next (m ∷ moves)
 ascend_later size from next m moves up le = (le, up.1)
+
+-- a move after all others may follow them
+pub ascend_push : (size from : ℕ) (moves : List Move) (m : Move) → AscendFrom size from moves → from ≤ present m.place → m.place < size → All (λ (x : Move). x.place < m.place) moves → AscendFrom size from (moves ++ m ∷ [])
+ascend_push size from [] m up le lt all = (le, (lt, tt))
+ascend_push size from (x ∷ xs) m up le lt all =
+    let before : x.place < m.place = All-head (λ (y : Move). y.place < m.place) x xs all in
+    (up.0, (up.1.0, ascend_push size (present x.place + 1) xs m up.1.1 (omega arith) lt (All-tail (λ (y : Move). y.place < m.place) x xs all)))
 
 -- a function of low variables stays one
 pub low_fixed : (v : ℕ) (c : Bool) (φ : Function) → IsLow φ → IsLow (fixed v c φ)

@@ -1,7 +1,7 @@
 -- Words of the private functions: what a step makes from some place on, and what was noted.
-use Rattle.std.specs.Prelude.{◌≡◌, ℕ, false, suc, ◌+◌, ◌<◌, ◌≤◌, ◌&&◌, ◌||◌, Bool, true, List, [], ◌∷◌, Some, slice_get, drop}
+use Rattle.std.specs.Prelude.{◌≡◌, ℕ, false, ◌&&◌, ◌||◌, Bool, true, List, [], ◌∷◌, Some, slice_get, drop}
 use Rattle.ja_node_core.specs.declared.aim.Aim.{Ghosts}
-use Rattle.ja_node_core.specs.Tree.{Tree, Assignment}
+use Rattle.ja_node_core.specs.Tree.{Tree}
 use Rattle.ja_node_core.specs.Node.{Words, Knows}
 use Rattle.ja_node_table.specs.declared.table.NodeTable.{NodeTable}
 use Rattle.ja_bdd.specs.declared.worker.Worker.{Worker}

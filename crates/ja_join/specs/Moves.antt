@@ -1,7 +1,6 @@
 -- What a rule allows, and what it makes of a function.
-use Rattle.std.specs.Prelude.{◌≡◌, ℕ, ◌&&◌, ◌||◌, ◌==◌, not, bit_and, bit_or, Bool, true, false, List, [], ◌∷◌}
+use Rattle.std.specs.Prelude.{◌≡◌, ◌||◌, ◌==◌, not, bit_and, bit_or, Bool, true, false, List, [], ◌∷◌}
 use Rattle.ja_node_core.specs.Tree.{Assignment}
-use Rattle.ja_bdd.specs.Functions.{Function, fixed}
 use Rattle.ja_join.specs.declared.rule.States.{States}
 use Rattle.ja_join.specs.declared.rule.Masks.{Masks}
 use Rattle.ja_join.specs.declared.rule.Move.{Move}

@@ -1,6 +1,9 @@
 ghost use Rattle.std.specs.Prelude.{◌≤◌};
 ghost use Rattle.ja_join.specs.Ascending.{AscendFrom, AscendFrom-prop};
 
+use ja_base::Memory;
+use std::alloc::Global;
+
 /// Which states of a rule are possible, as bits: those that wait for a true value among several slots,
 /// and those that have seen one or wait for none.
 #[derive(Clone, Copy)]
@@ -41,6 +44,37 @@ pub struct Rule {
     pub accepted: States,
     pub ghost small: { size ≤ 1023 },
     pub ghost ascending: { AscendFrom size 0 moves.items } by { AscendFrom-prop size 0 moves.items },
+}
+
+impl Rule {
+    ghost use Rattle.std.specs.Prelude.{◌≡◌, ◌≤◌, ◌<◌, ◌++◌, ◌∷◌, [], IfOk, OnOk};
+    ghost use Rattle.std.specs.List.{All};
+    ghost use Rattle.ja_join.specs.declared.rule.Move.{Move};
+
+    /// A rule of a frame of so many places, at most 1,023, without a move yet.
+    pub fn new(alloc: Global, size: u32, start: States, accepted: States) -> Rule
+        requires size { size ≤ 1023 }
+        ensures frame { (result.size ≡ size) × (result.start ≡ start) × (result.accepted ≡ accepted) }
+        ensures moves { result.moves.items ≡ [] }
+    {
+        Rule {
+            size,
+            moves: Vec::new(alloc),
+            start,
+            accepted,
+        }
+    }
+
+    /// Adds a move at a place of the frame, after all places that have one.
+    pub fn push(&mut self, step: Move) -> Result<(), Memory>
+        requires inside { step.place < self.old.size }
+        requires after { All (λ (m : Move). m.place < step.place) self.old.moves.items }
+        ensures frame { (self.new.size ≡ self.old.size) × (self.new.start ≡ self.old.start) × (self.new.accepted ≡ self.old.accepted) }
+        ensures moves { OnOk result (self.new.moves.items ≡ self.old.moves.items ++ step ∷ []) }
+    {
+        self.moves.push(step)?;
+        Ok(())
+    }
 }
 
 impl States {

@@ -1,9 +1,6 @@
-use Rattle.std.proofs.Common.{◌≡◌, Bool, true, false, refl, sym, ◌∙◌}
-use Rattle.ja_bdd.specs.Functions.{Function}
+use Rattle.std.proofs.Common.{◌≡◌, Bool, true, false, refl, sym}
 use Rattle.ja_join.specs.Inner.{stepped_from}
 use Rattle.ja_join.proofs.Leading.{stepped_is}
-use Rattle.ja_join.proofs.Passing.{whole_aimed, kept_child, moved_child, low_child, high_child, both_children, moved_from, kept_within, moved_within, lacks_more, lacks_whole}
-use Rattle.ja_join.proofs.Remembering.{right_still, found_right}
 use Rattle.ja_join.proofs.law.law_step.Goals as goal
 
 pub returns-clause-some : goal.returns-clause-some

@@ -1,6 +1,5 @@
 use Rattle.std.proofs.Common.{rules, ◌≡◌, ◌+◌, ◌*◌, ◌<◌, true, false, length, drop, refl, sym, ◌∙◌, subst, arith}
 use Rattle.std.proofs.lemmas.Result.{IfOk-weaker, IfErr-weaker}
-use Rattle.ja_node_core.specs.Node.{Knows}
 use Rattle.ja_node_table.specs.Seats.{aim_of}
 use Rattle.ja_bdd.specs.Functions.{fixed, either, chosen}
 use Rattle.ja_bdd.specs.Meaning.{meaning, IsMeant}

@@ -1,4 +1,4 @@
-use Rattle.std.proofs.Common.{◌≡◌, ◌≤◌, ℕ, Bool, false, length, drop, List, [], refl, sym, ap, ◌∙◌, subst, arith}
+use Rattle.std.proofs.Common.{◌≡◌, ◌≤◌, ℕ, false, length, drop, List, sym, ap, ◌∙◌, subst, arith}
 use Rattle.std.specs.Prelude.{◌&&◌}
 use Rattle.std.proofs.lemmas.List.{drop_all}
 use Rattle.std.proofs.lemmas.Option.{IfSome_then}
@@ -10,7 +10,7 @@ use Rattle.ja_bdd.proofs.Sound.{Sound, seat_sound, knows_constant, meaning_const
 use Rattle.ja_join.specs.declared.rule.States.{States}
 use Rattle.ja_join.specs.declared.rule.Move.{Move}
 use Rattle.ja_join.specs.Moves.{accepts, IsDead}
-use Rattle.ja_join.specs.Inner.{stepped, stepped_from}
+use Rattle.ja_join.specs.Inner.{stepped}
 use Rattle.ja_join.proofs.Stepping.{dead_stepped, empty_stepped}
 use Rattle.ja_join.proofs.Remembering.{found_right}
 use Rattle.ja_join.proofs.pass.at_hand.Goals as goal

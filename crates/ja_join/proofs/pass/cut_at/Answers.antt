@@ -1,9 +1,8 @@
-use Rattle.std.proofs.Common.{◌≡◌, ◌<◌, ◌≤◌, ℕ, suc, sym, subst, arith, refl}
+use Rattle.std.proofs.Common.{suc, sym, subst, refl}
 use Rattle.ja_bdd.specs.Functions.{IsFrom}
-use Rattle.ja_bdd.specs.Meaning.{meaning, IsHalved}
 use Rattle.ja_bdd.specs.Workers.{seen}
 use Rattle.ja_bdd.proofs.Sound.{seat_sound}
-use Rattle.ja_bdd.proofs.Parts.{halved_past, from_weaker}
+use Rattle.ja_bdd.proofs.Parts.{halved_past}
 use Rattle.ja_bdd.proofs.Forgetting.{is_constant}
 use Rattle.ja_join.proofs.pass.cut_at.Goals as goal
 
