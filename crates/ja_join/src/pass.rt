@@ -76,7 +76,8 @@ fn at_hand<A: Aim>(
     if r.number == 0 {
         return Some(r);
     }
-    if at == rule.moves.len() {
+    let end = rule.moves.len();
+    if at == end {
         if states.is_accepted(rule.accepted) {
             return Some(r);
         }

@@ -43,11 +43,11 @@ returns-then-r-eq0-clause-some g c =
     let rule = c.args.rule.now in
     empty_meant (seen w) (seat_sound w.seat) rule.accepted (drop c.args.at rule.moves.items) c.args.states c.args.r.number c.if-r-eq0.true c.requires.known
 
-pub returns-then-at-len-clause-some : goal.returns-then-at-len-clause-some
-returns-then-at-len-clause-some g c =
+pub returns-then-at-end-clause-some : goal.returns-then-at-end-clause-some
+returns-then-at-end-clause-some g c =
     let w = c.args.worker.now in
     let rule = c.args.rule.now in
-    let le : length rule.moves.items ≤ c.args.at = (let same = c.len.ensures in let here = c.if-at-len.true in omega arith) in
+    let le : length rule.moves.items ≤ c.args.at = omega arith in
     left_meant (seen w) (seat_sound w.seat) rule.accepted rule.moves.items c.args.states c.args.at (meaning (seen w) c.args.r.number) le (sym c.is_accepted.ensures ∙ c.if-is_accepted.false)
 
 pub returns-clause-some : goal.returns-clause-some
