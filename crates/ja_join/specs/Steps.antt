@@ -11,6 +11,7 @@ use Rattle.ja_join.specs.declared.rule.Move.{Move}
 use Rattle.ja_join.specs.declared.rule.Rule.{Rule}
 use Rattle.ja_join.specs.Ascending.{present}
 use Rattle.ja_join.specs.Moves.{allows}
+use Rattle.ja_base.specs.Limit.{last_variable}
 
 -- the variable is that of no move
 abbrev pub IsStill : List Move → ℕ → Type 0
@@ -40,7 +41,7 @@ LooksAs size φ ψ = (v : ℕ) → is_present size v ≡ false → IsFree v φ �
 
 -- the function looks at variables up to 4,094 alone
 abbrev pub IsLow : Function → Type 0
-IsLow φ = (a b : Assignment) → ((v : ℕ) → v ≤ 4094 → a v ≡ b v) → φ a ≡ φ b
+IsLow φ = (a b : Assignment) → ((v : ℕ) → v ≤ last_variable → a v ≡ b v) → φ a ≡ φ b
 
 -- each part of the function is of the aim: each function below it that looks, but for the variables at present, at no more than φ does
 abbrev pub ArePartsAimed : (Tree → Type 0) → (size : ℕ) → (φ χ : Function) → Type 0

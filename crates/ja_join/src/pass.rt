@@ -7,6 +7,7 @@ ghost use Rattle.ja_bdd.specs.Workers.{IsWorkerOf, seen};
 ghost use Rattle.ja_join.specs.Ascending.{present};
 ghost use Rattle.ja_join.specs.Steps.{IsStep, ArePartsAimed, LacksRoomAmong};
 ghost use Rattle.ja_join.specs.Inner.{stepped_from, parted, AreRight, IsAsked, IsMade};
+ghost use Rattle.ja_base.specs.Limit.{last_variable, max_variables};
 
 use crate::memo::Memo;
 use crate::rule::{Move, Rule, States};
@@ -26,7 +27,7 @@ struct Cut {
 fn cut_at<A: Aim>(worker: &mut Worker<A>, table: &NodeTable<A>, r: Node, now: u32) -> Cut
     requires worker { IsWorkerOf table.now worker.old }
     requires known { Knows (seen worker.old) r.number }
-    requires now { now ≤ 4094 }
+    requires now { now ≤ last_variable }
     ensures worker { IsWorkerOf table.now worker.new }
     ensures same { seen worker.new ≡ seen worker.old }
     ensures halved { IsHalved (seen worker.old) result.var r.number result.low.number result.high.number }
@@ -99,7 +100,7 @@ fn step_from<A: Aim>(
     r: Node,
 ) -> Result<Node, Full<A>>
     requires asked { IsAsked table.now (A.aims (aim_of table.now)) rule.now at states from worker.old memo.old r.number }
-    requires from { from ≤ 4095 }
+    requires from { from ≤ max_variables }
     requires at { at ≤ length rule.now.moves.items }
     ensures made { IsMade table.now rule.now worker.old worker.new memo.new }
     ensures ok { IfOk result (λ n. IsMeant (seen worker.new) n.number (stepped_from rule.now at states (meaning (seen worker.old) r.number))) }
@@ -133,7 +134,7 @@ fn step_cut<A: Aim>(
 ) -> Result<Node, Full<A>>
     requires asked { IsAsked table.now (A.aims (aim_of table.now)) rule.now at states cut.var worker.old memo.old r.number }
     requires halved { IsHalved (seen worker.old) cut.var r.number cut.low.number cut.high.number }
-    requires small { cut.var ≤ 4094 }
+    requires small { cut.var ≤ last_variable }
     requires var { cut.var ≤ present step.place }
     requires apart { cut.var < present step.place → cut.low.number ≢ cut.high.number }
     requires next { drop at rule.now.moves.items ≡ step ∷ drop (at + 1) rule.now.moves.items }
@@ -165,7 +166,7 @@ fn step_kept<A: Aim>(
 ) -> Result<Node, Full<A>>
     requires asked { IsAsked table.now (A.aims (aim_of table.now)) rule.now at states cut.var worker.old memo.old r.number }
     requires halved { IsHalved (seen worker.old) cut.var r.number cut.low.number cut.high.number }
-    requires small { cut.var ≤ 4094 }
+    requires small { cut.var ≤ last_variable }
     requires var { cut.var < present step.place }
     requires apart { cut.low.number ≢ cut.high.number }
     requires next { drop at rule.now.moves.items ≡ step ∷ drop (at + 1) rule.now.moves.items }
@@ -202,7 +203,7 @@ fn step_moved<A: Aim>(
 ) -> Result<Node, Full<A>>
     requires asked { IsAsked table.now (A.aims (aim_of table.now)) rule.now at states (present step.place) worker.old memo.old r.number }
     requires halved { IsHalved (seen worker.old) (present step.place) r.number low.number high.number }
-    requires small { present step.place ≤ 4094 }
+    requires small { present step.place ≤ last_variable }
     requires next { drop at rule.now.moves.items ≡ step ∷ drop (at + 1) rule.now.moves.items }
     requires at { at < length rule.now.moves.items }
     ensures made { IsMade table.now rule.now worker.old worker.new memo.new }
@@ -243,7 +244,7 @@ fn step_to<A: Aim>(
 ) -> Result<Node, Full<A>>
     requires asked { IsAsked table.now (A.aims (aim_of table.now)) rule.now at states (present step.place) worker.old memo.old r.number }
     requires halved { IsHalved (seen worker.old) (present step.place) r.number low.number high.number }
-    requires small { present step.place ≤ 4094 }
+    requires small { present step.place ≤ last_variable }
     requires next { drop at rule.now.moves.items ≡ step ∷ drop (at + 1) rule.now.moves.items }
     requires at { at < length rule.now.moves.items }
     ensures made { IsMade table.now rule.now worker.old worker.new memo.new }
