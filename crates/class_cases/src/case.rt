@@ -2,6 +2,7 @@
 use crate::attribute_case::{add_body, add_skip, add_value};
 use crate::class_case::{add_class_cuts, add_first, add_read_class};
 use crate::code_case::add_code;
+use crate::generated_case::add_generated;
 use crate::listing_case::listing_answer;
 use crate::opcode_case::{add_mnemonic, add_opcode};
 use crate::pool_case::{add_entries, add_pool, add_pool_cuts};
@@ -95,6 +96,7 @@ fn bytes_answer(
         "pool" => add_pool(alloc, &mut out, kept, text)?,
         "entries" => add_entries(alloc, &mut out, kept, text)?,
         "pool_cuts" => add_pool_cuts(alloc, &mut out, kept, text)?,
+        "generated" => add_generated(alloc, &mut out, text)?,
         _ => code_answer(alloc, &mut out, kept, command, text)?,
     }
     Ok(out)
