@@ -2,6 +2,7 @@
 use crate::attribute_case::add_attributes;
 use crate::class_case::{add_class_cuts, add_first, add_read_class};
 use crate::code_case::add_code;
+use crate::generated_case::add_generated;
 use crate::listing_case::listing_answer;
 use crate::opcode_case::{add_mnemonic, add_opcode};
 use crate::pool_case::{add_pool_case, add_pool_cuts};
@@ -97,6 +98,14 @@ fn bytes_answer(
             add_attributes(alloc, &mut out, kept, command, text)?
         }
         _ => add_of_words(alloc, &mut out, kept, command, text)?,
+        "utf8" => add_utf8(alloc, &mut out, kept, text)?,
+        "method" => add_method(alloc, &mut out, kept, text)?,
+        "field" => add_field(alloc, &mut out, kept, text)?,
+        "pool" => add_pool(alloc, &mut out, kept, text)?,
+        "entries" => add_entries(alloc, &mut out, kept, text)?,
+        "pool_cuts" => add_pool_cuts(alloc, &mut out, kept, text)?,
+        "generated" => add_generated(alloc, &mut out, text)?,
+        _ => code_answer(alloc, &mut out, kept, command, text)?,
     }
     Ok(out)
 }

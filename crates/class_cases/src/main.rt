@@ -16,6 +16,7 @@
 //! - `read TEXT` is a listing; `items TEXT` prints what was read. `write TEXT` judges and writes its classes and
 //!   reads them back, `bytes TEXT` prints the bytes, and `written TEXT` what is read back. `item TEXT` is `write`
 //!   for a class with the item in a method with the labels a, b and c, in which it has the number 3.
+//! - `generated NUMBER CLASSES` are the files of so many classes that are made from a number, each as it is read back.
 //!
 //! BYTES are words: hexadecimal digits; `"TEXT"` without blanks; `@NAME` for what is kept; `COUNT*DIGITS` for so many
 //! times the digits; `PLACE=DIGITS` and `PLACE/LENGTH=DIGITS` to put digits in place of what stands there; and
@@ -31,6 +32,7 @@ mod code_case;
 mod code_text;
 mod entry_text;
 mod escape;
+mod generated_case;
 mod item_text;
 mod listing_case;
 mod opcode_case;
