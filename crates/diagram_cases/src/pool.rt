@@ -9,7 +9,7 @@ ghost use Rattle.ja_join.specs.Composed.{LooksIn};
 
 use ja_base::Memory;
 use ja_bdd::{Assign, Copies, Worker};
-use ja_join::{Memo, Rule, after, project, step};
+use ja_join::{Memo, Rule, after, looks_in, project, step};
 use ja_node_core::AnyAim;
 use ja_node_table::{Node, NodeSeat, NodeTable, Parts};
 use std::alloc::Global;
@@ -42,6 +42,7 @@ const FIRST: Copies = Copies {
     at_next: false,
     at_callee: false,
 };
+
 const SECOND: Copies = Copies {
     at_entry: false,
     at_present: true,
@@ -69,23 +70,18 @@ fn literal(
     }
 }
 
-/// Whether a node looks at these copies alone: the others can be forgotten without a change.
-fn looks_in(
-    table: &NodeTable<AnyAim>,
-    worker: &mut Worker<AnyAim>,
-    n: Node,
-    copies: &Copies,
-) -> bool
+/// Whether a node is known to look at these copies alone.
+fn is_in(table: &NodeTable<AnyAim>, worker: &mut Worker<AnyAim>, n: Node, copies: &Copies) -> bool
     requires worker { IsWorkerOf table.now worker.old }
     requires known { Knows (seen worker.old) n.number }
     ensures worker { IsWorkerOf table.now worker.new }
     ensures keeps { Keeps (seen worker.old) (seen worker.new) }
     ensures looks { IsTrue result → LooksIn copies.now (meaning (seen worker.new) n.number) }
 {
-    let Ok(rest) = project(worker, table, n, copies) else {
+    let Ok(looks) = looks_in(worker, table, n, copies) else {
         return false;
     };
-    rest.number == n.number
+    looks
 }
 
 /// Composes two relations, where each looks at its copies alone.
@@ -101,10 +97,10 @@ fn composed(
     ensures keeps { Keeps (seen worker.old) (seen worker.new) }
     ensures known { IfSome result (λ n. Knows (seen worker.new) n.number) }
 {
-    if !looks_in(table, worker, f, &FIRST) {
+    if !is_in(table, worker, f, &FIRST) {
         return None;
     }
-    if !looks_in(table, worker, g, &SECOND) {
+    if !is_in(table, worker, g, &SECOND) {
         return None;
     }
     after(worker, table, f, g).ok()

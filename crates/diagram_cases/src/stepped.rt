@@ -20,6 +20,7 @@ const ENTRY: Copies = Copies {
     at_next: false,
     at_callee: false,
 };
+
 const PRESENT: Copies = Copies {
     at_entry: false,
     at_present: true,
@@ -28,12 +29,7 @@ const PRESENT: Copies = Copies {
 };
 
 /// The relation that two variables have one value.
-fn same(
-    pool: &mut Pool,
-    table: &NodeTable<AnyAim>,
-    one: u32,
-    other: u32,
-) -> Result<usize, Memory>
+fn same(pool: &mut Pool, table: &NodeTable<AnyAim>, one: u32, other: u32) -> Result<usize, Memory>
     requires { IsWorkerOf table.now pool.old.worker × All (λ n. Knows (seen pool.old.worker) n.number) pool.old.nodes.items }
     ensures { OnOk result (IsWorkerOf table.now pool.new.worker × All (λ n. Knows (seen pool.new.worker) n.number) pool.new.nodes.items) }
 {
@@ -90,13 +86,7 @@ fn spread(values: usize) -> usize {
 
 /// Adds the values of three slots.
 fn add_values(out: &mut String, values: usize) -> Result<(), Memory> {
-    Ok(write!(
-        out,
-        "{}{}{}",
-        values & 1,
-        values >> 1 & 1,
-        values >> 2 & 1
-    )?)
+    Ok(write!(out, "{}{}{}", values & 1, values >> 1 & 1, values >> 2 & 1)?)
 }
 
 /// Adds which presents a relation has for an entry.
@@ -169,7 +159,15 @@ fn add_rules(out: &mut String, alloc: Global) -> Result<(), Memory> {
     let rule = mix(alloc)?;
     add_step(out, &mut pool, &table, &mut memo, "mix", &rule, start)?;
     let rule = mix_before(alloc)?;
-    add_step(out, &mut pool, &table, &mut memo, "mix before", &rule, start)?;
+    add_step(
+        out,
+        &mut pool,
+        &table,
+        &mut memo,
+        "mix before",
+        &rule,
+        start,
+    )?;
     let rule = guess(alloc)?;
     add_step(out, &mut pool, &table, &mut memo, "guess", &rule, start)?;
     let rule = narrow(alloc)?;
@@ -219,10 +217,7 @@ fn add_composed(out: &mut String, alloc: Global) -> Result<(), Memory> {
     let rule = mix(alloc)?;
     let stepped = add_step(out, &mut pool, &table, &mut memo, "mix some", &rule, some)?;
     let mixes = pool.number(composed) == pool.number(stepped);
-    Ok(writeln!(
-        out,
-        "steps are compositions: copy {copies} mix {mixes}"
-    )?)
+    Ok(writeln!(out, "steps are compositions: copy {copies} mix {mixes}")?)
 }
 
 /// Adds what is left of the entry where a copied slot is true, and of the present where one is guessed.

@@ -1,5 +1,5 @@
 -- What a composition looks at, and its renaming.
-use Rattle.std.proofs.Common.{◌≡◌, ◌≢◌, ℕ, ◌+◌, ◌-◌, ◌*◌, ◌<◌, ◌≤◌, Bool, true, false, refl, sym, ap, ◌∙◌, subst, arith, ◌⊎◌, inl, inr, ⊎_elim}
+use Rattle.std.proofs.Common.{◌≡◌, ◌≢◌, ℕ, zero, suc, ◌+◌, ◌-◌, ◌*◌, ◌<◌, ◌≤◌, Bool, true, false, refl, sym, ap, ◌∙◌, subst, arith, ◌⊎◌, inl, inr, ⊎_elim}
 use Rattle.std.specs.Prelude.{◌&&◌, not, ◌%◌, ◌==◌, nat_lt, if◌then◌else◌}
 use Rattle.std.proofs.lemmas.Bool.{and_parts, and_from, cases_eq, cases_lt, eq-eqb, ne_eqb, eqb-true, eqb-false, ltb-true, ltb-false, lt-ltb}
 use mathlib.Core.Logic.{dite}
@@ -10,8 +10,8 @@ use Rattle.ja_node_core.proofs.Reduced.{with_var_other}
 use Rattle.ja_bdd.specs.Functions.{Function, with_var, both, renamed, IsFree, KeepsOrder}
 use Rattle.ja_bdd.specs.Meaning.{Keeps}
 use Rattle.ja_bdd.specs.declared.copies.Copies.{Copies}
-use Rattle.ja_bdd.specs.Copies.{in_copies, all_forgotten}
-use Rattle.ja_bdd.proofs.Fixing.{fixed_free, free_op}
+use Rattle.ja_bdd.specs.Copies.{in_copies, forgotten_if, forgotten_below, all_forgotten}
+use Rattle.ja_bdd.proofs.Fixing.{fixed_free, forgotten_free, free_op}
 use Rattle.ja_bdd.proofs.Named.{IsSmall}
 use Rattle.ja_bdd.proofs.Quantified.{left_fixed}
 use Rattle.ja_bdd.proofs.Existing.{left_true}
@@ -63,6 +63,24 @@ rest_looks c φ small same v out = ⊎_elim
     (λ high. small_free φ small v high)
     (λ low. subst (IsFree v) same (left_gone (in_copies (others_of c)) φ v (others_in c v ∙ ap not out) low))
     (cases_lt 4094 v)
+
+-- what a function does not look at can be forgotten
+below_free : (goes : ℕ → Bool) (φ : Function) → ((v : ℕ) → goes v ≡ true → IsFree v φ) → (n : ℕ) → forgotten_below n goes φ ≡ φ
+unfolding forgotten_below
+below_free goes φ free zero = refl
+below_free goes φ free (suc n) = ap (forgotten_if (goes n) n) (below_free goes φ free n) ∙ by_case (goes n) (free n)
+  where
+    by_case : (b : Bool) → (b ≡ true → IsFree n φ) → forgotten_if b n φ ≡ φ
+    by_case true is_free = forgotten_free n φ (is_free refl)
+    by_case false is_free = refl
+
+not_true : (b : Bool) → not b ≡ true → b ≡ false
+not_true false e = refl
+not_true true e = sym e
+
+pub looks_rest : (c : Copies) (φ : Function) → LooksIn c φ → all_forgotten (in_copies (others_of c)) φ ≡ φ
+unfolding all_forgotten
+looks_rest c φ looks = below_free (in_copies (others_of c)) φ (λ v gone. looks v (not_true (in_copies c v) (sym (others_in c v) ∙ gone))) 4095
 
 module _ (φ ρ : Function) (φ_in : LooksIn entry_and_present φ) (ρ_in : LooksIn present_and_next ρ) where
   joined : Function

@@ -8,7 +8,7 @@ mod memo;
 mod pass;
 mod rule;
 
-pub use compose::{after, project};
+pub use compose::{after, looks_in, project};
 pub use ja_bdd::Copies;
 pub use law::{law_composed, law_step};
 pub use memo::Memo;
