@@ -97,15 +97,8 @@ fn bytes_answer(
         "skip" | "value" | "body" | "no_body" => {
             add_attributes(alloc, &mut out, kept, command, text)?
         }
-        _ => add_of_words(alloc, &mut out, kept, command, text)?,
-        "utf8" => add_utf8(alloc, &mut out, kept, text)?,
-        "method" => add_method(alloc, &mut out, kept, text)?,
-        "field" => add_field(alloc, &mut out, kept, text)?,
-        "pool" => add_pool(alloc, &mut out, kept, text)?,
-        "entries" => add_entries(alloc, &mut out, kept, text)?,
-        "pool_cuts" => add_pool_cuts(alloc, &mut out, kept, text)?,
         "generated" => add_generated(alloc, &mut out, text)?,
-        _ => code_answer(alloc, &mut out, kept, command, text)?,
+        _ => add_of_words(alloc, &mut out, kept, command, text)?,
     }
     Ok(out)
 }
