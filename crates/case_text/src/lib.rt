@@ -4,7 +4,9 @@
 mod escaped;
 mod repetition;
 mod shown;
+mod words;
 
 pub use escaped::unescaped;
 pub use repetition::repeated;
 pub use shown::ShownBytes;
+pub use words::words_of;

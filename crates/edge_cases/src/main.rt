@@ -7,6 +7,7 @@
 mod directory;
 mod stream;
 
+use case_text::words_of;
 use directory::{entered, front, listed};
 use ja_io::DirFolder;
 use std::fs::{self, File, Files};
@@ -40,10 +41,7 @@ fn linked(rt: &HostRuntime, link: &str, to: &str) -> io::Result<String> {
 
 /// Prints a line with its answer.
 fn tell(rt: &HostRuntime, folder: &mut DirFolder<&HostRuntime>, line: &str) -> io::Result<()> {
-    let mut words = Vec::new(rt.alloc());
-    for word in line.split_whitespace() {
-        words.push(word)?;
-    }
+    let words = words_of(rt.alloc(), line)?;
     print!(rt; "{line}: ")?;
     let answer = answer(rt, folder, words.as_slice())?;
     println!(rt; "{answer}")

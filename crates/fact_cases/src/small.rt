@@ -1,10 +1,11 @@
 //! Sets, names and parameters, as lines of the input ask for them.
+use case_text::words_of;
 use ja_base::{ClassId, Memory, Name, NumbersByName, Seq};
 use ja_bytes::method_desc;
 use ja_facts::param_count;
 use ja_ir::Method;
 use ja_sets::{PairSet, TokenSet};
-use std::alloc::{AllocError, Global};
+use std::alloc::Global;
 
 /// What comes of the lines of a text that ask for something, each behind the line.
 pub fn small_text(alloc: Global, text: &str) -> Result<String, Memory> {
@@ -33,15 +34,6 @@ pub fn small_text(alloc: Global, text: &str) -> Result<String, Memory> {
         }
     }
     Ok(out)
-}
-
-/// The words of a line.
-fn words_of<'a>(alloc: Global, line: &'a str) -> Result<Vec<&'a str>, AllocError> {
-    let mut words = Vec::new(alloc);
-    for word in line.split_whitespace() {
-        words.push(word)?;
-    }
-    Ok(words)
 }
 
 /// The number that a word spells, or the largest where it spells none.

@@ -1,7 +1,7 @@
 //! One hierarchy with its questions.
 use crate::answer::add_answer;
 use crate::head::heads_of;
-use crate::words::words_of;
+use case_text::words_of;
 use ja_base::Memory;
 use ja_hier::{Hier, HierFault, hierarchy, is_numbered};
 use ja_ir::ClassHead;

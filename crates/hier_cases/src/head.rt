@@ -1,5 +1,6 @@
 //! The classes that lines spell.
-use crate::words::{hexadecimal, number, numbered, word, words_of};
+use crate::words::{hexadecimal, number, numbered, word};
+use case_text::words_of;
 use ja_base::{Memory, Name, Names, Seq};
 use ja_ir::{ClassHead, HeadField, HeadFields, HeadMethod, HeadMethods};
 use std::alloc::Global;

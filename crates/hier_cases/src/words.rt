@@ -1,14 +1,5 @@
-//! The words of lines.
+//! What words spell.
 use std::alloc::{AllocError, Global};
-
-/// The words of a line.
-pub fn words_of<'a>(alloc: Global, line: &'a str) -> Result<Vec<&'a str>, AllocError> {
-    let mut words = Vec::new(alloc);
-    for word in line.split_whitespace() {
-        words.push(word)?;
-    }
-    Ok(words)
-}
 
 /// The number that a word spells, or the largest where it spells none.
 pub fn number(word: &str) -> u32 {

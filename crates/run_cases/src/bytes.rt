@@ -1,5 +1,5 @@
 //! Bytes, names and numbers in text.
-use case_text::unescaped;
+use case_text::{unescaped, words_of};
 use ja_base::{Bytes, File, Files, Memory, Name, Numbers};
 use std::alloc::{AllocError, Global};
 
@@ -19,15 +19,6 @@ pub fn lines_of<'a>(alloc: Global, part: &'a str) -> Result<Vec<&'a str>, AllocE
         }
     }
     Ok(lines)
-}
-
-/// The words of a line.
-pub fn words_of<'a>(alloc: Global, line: &'a str) -> Result<Vec<&'a str>, AllocError> {
-    let mut words = Vec::new(alloc);
-    for word in line.split_whitespace() {
-        words.push(word)?;
-    }
-    Ok(words)
 }
 
 /// The bytes that lines spell, each by two hexadecimal digits.

@@ -1,5 +1,6 @@
 //! Questions and their answers.
 use crate::shown::RowText;
+use case_text::words_of;
 use ja_base::{Flags, Memory, Name};
 use ja_lib::{EntryRow, Table};
 use std::alloc::{AllocError, Global};
@@ -12,10 +13,7 @@ pub fn add_answer(
     question: &str,
 ) -> Result<(), Memory> {
     write!(out, "{question}: ")?;
-    let mut words = Vec::new(alloc);
-    for word in question.split_whitespace() {
-        words.push(word)?;
-    }
+    let words = words_of(alloc, question)?;
     match words.as_slice() {
         ["row", class, method, desc] => add_row(out, alloc, table, class, method, desc)?,
         ["marks", class, method, desc] => add_marks(out, alloc, table, class, method, desc)?,

@@ -2,7 +2,8 @@
 use crate::program::{Cases, program_of, projected_text};
 use crate::refusal::refusal_text;
 use crate::report::{line_text, report_text, status_text, text_of_bytes, total_text};
-use crate::words::{name_of, number_of, small_of, words_of};
+use crate::words::{name_of, number_of, small_of};
+use case_text::words_of;
 use ja_base::Memory;
 use ja_ir::Program;
 use ja_verdict::{full_line, push_name, push_number, usage_lines};

@@ -1,16 +1,7 @@
 //! What words spell.
 use case_text::unescaped;
 use ja_base::{Flags, Memory, Name};
-use std::alloc::{AllocError, Global};
-
-/// The words of a line.
-pub fn words_of<'a>(alloc: Global, line: &'a str) -> Result<Vec<&'a str>, AllocError> {
-    let mut words = Vec::new(alloc);
-    for word in line.split_whitespace() {
-        words.push(word)?;
-    }
-    Ok(words)
-}
+use std::alloc::Global;
 
 /// The name that a word spells, in which `\x` and two hexadecimal digits stand for a byte. `''` has no bytes.
 pub fn name_of(alloc: Global, word: &str) -> Result<Name, Memory> {
