@@ -4,14 +4,20 @@ ghost use Rattle.ja_bdd.specs.Meaning.{Keeps};
 ghost use Rattle.ja_bdd.specs.Workers.{IsWorkerOf, seen};
 ghost use Rattle.ja_base.specs.Limit.{last_variable};
 
+use crate::composed::composed;
 use crate::failure::Failure;
 use ja_bdd::{Copies, MAX_ENTRIES, Worker};
+use ja_bdd::{Copies, Worker};
+use ja_join::{Memo, Rule, step};
 use ja_node_core::AnyAim;
 use ja_node_table::{Node, NodeSeat, NodeTable};
 use std::alloc::Global;
 
 /// How many slots the relations have, each of four copies.
 pub const SLOTS: u32 = 64;
+
+/// The place of the constant false.
+pub const FALSE: usize = 0;
 
 /// The place of the constant true.
 pub const TRUE: usize = 1;
@@ -34,13 +40,15 @@ pub enum Step {
     Exists(u32),
     ExistsAll(Copies),
     AndExists(Copies),
+    /// The first relation and then the second.
+    After,
 }
 
 /// Makes one operation, of a worker that knows both nodes.
 pub fn ask(
     table: &NodeTable<AnyAim>,
     worker: &mut Worker<AnyAim>,
-    step: Step,
+    asked: Step,
     f: Node,
     g: Node,
 ) -> Option<Node>
@@ -50,12 +58,13 @@ pub fn ask(
     ensures keeps { Keeps (seen worker.old) (seen worker.new) }
     ensures known { IfSome result (λ n. Knows (seen worker.new) n.number) }
 {
-    match step {
+    match asked {
         Step::And => worker.and(table, f, g).ok(),
         Step::Or => worker.or(table, f, g).ok(),
         Step::Exists(var) => worker.exists(table, f, var).ok(),
         Step::ExistsAll(copies) => worker.exists_all(table, f, copies).ok(),
         Step::AndExists(copies) => worker.and_exists(table, f, g, copies).ok(),
+        Step::After => composed(table, worker, f, g),
     }
 }
 
@@ -162,7 +171,7 @@ impl Pool {
     pub fn step(
         &mut self,
         table: &NodeTable<AnyAim>,
-        step: Step,
+        asked: Step,
         f: usize,
         g: usize,
     ) -> Result<usize, Failure>
@@ -171,7 +180,26 @@ impl Pool {
     {
         let f = self.node(f)?;
         let g = self.node(g)?;
-        let Some(made) = ask(table, &mut self.worker, step, f, g) else {
+        let Some(made) = ask(table, &mut self.worker, asked, f, g) else {
+            return Err(Failure::NoRoom);
+        };
+        self.nodes.push(made)?;
+        Ok(self.nodes.len() - 1)
+    }
+
+    /// What a rule makes of a node, by its place.
+    pub fn stepped(
+        &mut self,
+        table: &NodeTable<AnyAim>,
+        memo: &mut Memo,
+        rule: &Rule,
+        r: usize,
+    ) -> Result<usize, Failure>
+        requires { IsReady table.now self.old }
+        ensures { OnOk result (IsReady table.now self.new) }
+    {
+        let r = self.node(r)?;
+        let Ok(made) = step(&mut self.worker, memo, table, rule, r) else {
             return Err(Failure::NoRoom);
         };
         self.nodes.push(made)?;

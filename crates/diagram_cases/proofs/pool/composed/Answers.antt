@@ -5,7 +5,7 @@ use Rattle.ja_join.proofs.Composing.{keeps_chain}
 use Rattle.diagram_cases.proofs.pool.composed.Goals as goal
 
 pub is_in-requires-2-clause-known : goal.is_in-requires-2-clause-known
-is_in-requires-2-clause-known c κs = (c.is_in.ensures.keeps c.args.g.number c.requires.known.1).0
+is_in-requires-2-clause-known c = (c.is_in.ensures.keeps c.args.g.number c.requires.known.1).0
 
 pub returns-then-not-is_in-2-clause-keeps : goal.returns-then-not-is_in-2-clause-keeps
 returns-then-not-is_in-2-clause-keeps c = keeps_chain (seen c.args.worker.now) (seen c.is_in.new.worker) (seen c.is_in-2.new.worker) c.is_in.ensures.keeps c.is_in-2.ensures.keeps
