@@ -1,5 +1,5 @@
 //! What a folder comes to.
-ghost use Rattle.std.specs.Prelude.{◌≡◌, ◌≢◌, ◌+◌, ◌≤◌, ◌⊎◌, List, IfOk, IfSome, IsErrOf, IsPermutation, IsSomeAnd, IsSorted, count_by, length};
+ghost use Rattle.std.specs.Prelude.{◌≡◌, ◌≢◌, ◌+◌, ◌≤◌, ◌⊎◌, List, IfOk, IfSome, IsErrOf, IsPermutation, IsSomeAnd, IsSorted, OnOk, count_by, length};
 ghost use Rattle.std.specs.Option.{ForSome};
 ghost use Rattle.std.specs.Ordering.{nat_cmp};
 ghost use Rattle.std.specs.Cmp.Lexicographic.{slice_cmp};
@@ -103,6 +103,7 @@ fn names_in_order<F: Folder>(alloc: Global, folder: &mut F) -> Result<Vec<Name>,
     ensures ordered { IfOk result (λ names. IsSorted (slice_cmp nat_cmp) names.items) }
     ensures distinct { IfSome (F.told folder.new) (λ held. HasDistinctNames held.files) }
     ensures failed { IsErrOf result ReadingFault.Folder → Rose (F.faults folder.old) (F.faults folder.new) }
+    ensures quiet { OnOk result (F.faults folder.new ≡ F.faults folder.old) }
     ensures grows { F.faults folder.old ≤ F.faults folder.new }
     ensures calls { F.calls folder.new ≤ F.calls folder.old + 1 }
     ensures held { F.told folder.new ≡ F.told folder.old }
@@ -123,6 +124,7 @@ fn judge_names<R: Threads + Sync, F: Folder>(
     requires ordered { IsSorted (slice_cmp nat_cmp) names.now }
     ensures judged { IfOk result (λ judgement. IfSome (F.told folder.old) (λ held. ComesTo held.files judgement)) }
     ensures failed { IsErrOf result ReadingFault.Folder → Rose (F.faults folder.old) (F.faults folder.new) }
+    ensures quiet { OnOk result (F.faults folder.new ≡ F.faults folder.old) }
     ensures grows { F.faults folder.old ≤ F.faults folder.new }
     ensures reads { F.calls folder.new ≤ F.calls folder.old + count_by is_read names.now }
     ensures unread { AreRefused names.now → F.calls folder.new ≤ F.calls folder.old }
@@ -160,6 +162,8 @@ pub fn judge_folder<R: Threads + Sync, F: Folder>(
     ensures refuses { (refusal : Refusal) → IfSome (F.told folder.old) (λ held. Refuses held.files refusal → IfOk result (λ judgement. judgement ≡ Refused refusal)) }
     // A folder failed only where its count of faults rose, or where it tells another directory.
     ensures failed { IsErrOf result ReadingFault.Folder → Rose (F.faults folder.old) (F.faults folder.new) ⊎ IsSomeAnd (F.told folder.old) (λ held. held.dir ≢ dir.now) }
+    // Where something is answered, no call of the folder failed.
+    ensures quiet { OnOk result (F.faults folder.new ≡ F.faults folder.old) }
     ensures grows { F.faults folder.old ≤ F.faults folder.new }
     // There are no more calls than to enter the directory, to list it, and to read each file that matters.
     ensures reads { IfSome (F.told folder.old) (λ held. F.calls folder.new ≤ F.calls folder.old + 2 + count_by is_read (names_of held.files)) }

@@ -1,5 +1,5 @@
 //! Judging files one by one, so that the bytes of one that is judged are let go.
-ghost use Rattle.std.specs.Prelude.{◌≡◌, ◌++◌, ◌+◌, ◌≤◌, [], ◌∷◌, ℕ, List, false, true, length, IfOk};
+ghost use Rattle.std.specs.Prelude.{◌≡◌, ◌++◌, ◌+◌, ◌≤◌, [], ◌∷◌, ℕ, List, true, length, IfOk};
 ghost use Rattle.ja_base.specs.Limit.{max_file_bytes, max_total_bytes};
 ghost use Rattle.ja_base.specs.declared.file.File.{File};
 ghost use Rattle.ja_lower.specs.Folder.{is_class_file, is_read, table_name};

@@ -1,5 +1,5 @@
 //! Reading the files of a folder, one after the other.
-ghost use Rattle.std.specs.Prelude.{◌≡◌, ◌++◌, ◌+◌, ◌≤◌, [], ◌∷◌, ℕ, List, true, Contains, IfErr, IfOk, IfSome, IsErrOf, IsPermutation, count_by, length, take};
+ghost use Rattle.std.specs.Prelude.{◌≡◌, ◌++◌, ◌+◌, ◌≤◌, [], ◌∷◌, List, true, Contains, IfErr, IfOk, IfSome, IsErrOf, IsPermutation, OnOk, count_by, take};
 ghost use Rattle.std.specs.Option.{ForSome};
 ghost use Rattle.ja_base.specs.Cause.{Rose};
 ghost use Rattle.ja_base.specs.Limit.{max_file_bytes, max_total_bytes};
@@ -22,6 +22,7 @@ fn read_file<F: Folder>(alloc: Global, folder: &mut F, name: &Name) -> Result<Fi
     ensures named { IfOk result (λ file. file.name ≡ name.now) }
     ensures front { IfOk result (λ file. IfSome (F.told folder.old) (λ held. (next : HeldFile) → Contains held.files next → next.name ≡ name.now → file.bytes ≡ take (max_file_bytes + 1) next.bytes)) }
     ensures failed { IsErrOf result ReadingFault.Folder → Rose (F.faults folder.old) (F.faults folder.new) }
+    ensures quiet { OnOk result (F.faults folder.new ≡ F.faults folder.old) }
     ensures grows { F.faults folder.old ≤ F.faults folder.new }
     ensures calls { F.calls folder.new ≤ F.calls folder.old + 1 }
     ensures held { F.told folder.new ≡ F.told folder.old }
@@ -76,6 +77,7 @@ fn read_next<F: Folder>(
     requires { ForSome (F.told folder.old) (λ held. Contains (names_of held.files) name.now) }
     ensures judged { IfOk result (λ outcome. IfSome (F.told folder.old) (λ held. (files : List HeldFile) (next : HeldFile) → Contains held.files next → next.name ≡ name.now → AreJudged (read_files files) judged → AreJudgedOrLong (read_files (files ++ next ∷ [])) outcome)) }
     ensures failed { IsErrOf result ReadingFault.Folder → Rose (F.faults folder.old) (F.faults folder.new) }
+    ensures quiet { OnOk result (F.faults folder.new ≡ F.faults folder.old) }
     ensures grows { F.faults folder.old ≤ F.faults folder.new }
     ensures calls { F.calls folder.new ≤ F.calls folder.old + count_by is_read (name.now ∷ []) }
     ensures held { F.told folder.new ≡ F.told folder.old }
@@ -99,6 +101,7 @@ pub(crate) fn read_all<F: Folder>(
     requires { ForSome (F.told folder.old) (λ held. IsPermutation (names_of held.files) names.now) }
     ensures judged { IfOk result (λ outcome. IfSome (F.told folder.old) (λ held. (ordered : List HeldFile) → IsPermutation held.files ordered → names_of ordered ≡ names.now → AreJudgedOrLong (read_files ordered) outcome)) }
     ensures failed { IsErrOf result ReadingFault.Folder → Rose (F.faults folder.old) (F.faults folder.new) }
+    ensures quiet { OnOk result (F.faults folder.new ≡ F.faults folder.old) }
     ensures grows { F.faults folder.old ≤ F.faults folder.new }
     ensures calls { F.calls folder.new ≤ F.calls folder.old + count_by is_read names.now }
     ensures held { F.told folder.new ≡ F.told folder.old }

@@ -47,28 +47,46 @@ fn add_folder<R: Threads + Sync>(
     if !has_distinct_names(files.as_slice()) {
         return Ok(writeln!(out, "two files of one name")?);
     }
-    let mut folder = MemFolder::new(Name::of(alloc, b"d")?, files, fails_of(alloc, lines)?);
+    let fails = fails_of(alloc, lines)?;
+    let mut folder = MemFolder::new(Name::of(alloc, b"d")?, files, fails);
     let asked = Name::of(alloc, asked_in(lines).as_bytes())?;
-    match judge_folder(rt, alloc, &mut folder, &asked) {
-        Ok(Judgement::Accepted(program)) => add_program(out, alloc, &program),
-        Ok(Judgement::Refused(refusal)) => {
-            Ok(out.push_str(refusal_text(alloc, &refusal)?.as_str())?)
-        }
-        Err(ReadingFault::Folder) => Ok(writeln!(out, "folder fault")?),
+    let text = judged_text(rt, alloc, &mut folder, &asked)?;
+    Ok(out.push_str(text.as_str())?)
+}
+
+/// What comes of a folder, as text.
+fn judged_text<R: Threads + Sync>(
+    rt: &R,
+    alloc: Global,
+    folder: &mut MemFolder,
+    asked: &Name,
+) -> Result<String, Memory> {
+    match judge_folder(rt, alloc, folder, asked) {
+        Ok(judgement) => judgement_text(alloc, &judgement),
+        Err(ReadingFault::Folder) => Ok("folder fault\n".to_string(alloc)?),
         Err(ReadingFault::Memory) => Err(Memory),
     }
 }
 
-/// Adds `accepted` and the lines of a program's categories, classes, entries and sink calls.
-fn add_program(out: &mut String, alloc: Global, program: &Program) -> Result<(), Memory> {
+/// A judgement as text.
+fn judgement_text(alloc: Global, judgement: &Judgement) -> Result<String, Memory> {
+    match judgement {
+        Judgement::Accepted(program) => program_text(alloc, program),
+        Judgement::Refused(refusal) => refusal_text(alloc, refusal),
+    }
+}
+
+/// `accepted` and the lines of a program's categories, classes, entries and sink calls.
+fn program_text(alloc: Global, program: &Program) -> Result<String, Memory> {
     let text = text_of(alloc, program)?;
+    let mut out = String::new(alloc);
     writeln!(out, "accepted")?;
     for line in text.as_str().lines() {
         if is_head(line) {
             writeln!(out, "{line}")?;
         }
     }
-    Ok(())
+    Ok(out)
 }
 
 /// Whether a line of a program's text is that of a category, a class, an entry or a sink call.

@@ -9,7 +9,7 @@ pub loop-name-init : goal.loop-name-init
 loop-name-init g c = record {
   judged = none_yet (g.F.Folder.told c.args.folder.now) c.args.names.now c.nothing_read-judged.result c.nothing_read-judged.ensures;
   held = refl;
-  grows = omega arith;
+  quiet = refl;
   calls = omega arith;
 }
 
@@ -51,7 +51,7 @@ loop-name-preserved g c =
           c.loop-name.invariant.judged
           (subst (λ (told : Option Contents). IsNext told c.name-item.result c.loop-name.judged (Ok c.in-Ok.next)) c.loop-name.invariant.held next);
       held = c.read_next.ensures.held ∙ c.loop-name.invariant.held;
-      grows = omega (arith, c.read_next.ensures.grows, c.loop-name.invariant.grows);
+      quiet = c.in_ok-next.ensures.quiet ∙ c.loop-name.invariant.quiet;
       calls =
           calls_more c.args.names.now c.loop-name.name-index c.name-item.result _ (g.F.Folder.calls c.loop-name.folder) _ below c.name-item.is c.loop-name.invariant.calls
           c.read_next.ensures.calls;

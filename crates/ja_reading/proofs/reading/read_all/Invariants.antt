@@ -8,6 +8,6 @@ abbrev pub invariant-loop-name : goal.invariant-loop-name
 invariant-loop-name g l = record {
   judged : AreJudgedUpTo (g.F.Folder.told l.fn.folder) l.names l.name-index l.judged;
   held : g.F.Folder.told l.folder ≡ g.F.Folder.told l.fn.folder;
-  grows : g.F.Folder.faults l.fn.folder ≤ g.F.Folder.faults l.folder;
+  quiet : g.F.Folder.faults l.folder ≡ g.F.Folder.faults l.fn.folder;
   calls : g.F.Folder.calls l.folder ≤ g.F.Folder.calls l.fn.folder + count_by is_read (take l.name-index l.names);
 }
