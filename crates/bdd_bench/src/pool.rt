@@ -7,7 +7,6 @@ ghost use Rattle.ja_base.specs.Limit.{last_variable};
 use crate::composed::composed;
 use crate::failure::Failure;
 use ja_bdd::{Copies, MAX_ENTRIES, Worker};
-use ja_bdd::{Copies, Worker};
 use ja_join::{Memo, Rule, step};
 use ja_node_core::AnyAim;
 use ja_node_table::{Node, NodeSeat, NodeTable};

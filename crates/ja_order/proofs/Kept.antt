@@ -6,13 +6,25 @@ use Rattle.ja_ir.specs.Lookup.{is_member}
 use Rattle.ja_ir.specs.Params.{param_count, param_local}
 use Rattle.ja_order.specs.declared.frame.Frame.{Frame}
 use Rattle.ja_order.specs.declared.order.Order.{Order}
-use Rattle.ja_order.specs.Order.{IsOrder, stack_slot}
+use Rattle.ja_order.specs.Order.{HasPlaces, IsOrder, stack_slot}
 use Rattle.ja_order.specs.Inner.{IsOrderOf, IsFrameOf}
 use Rattle.ja_order.proofs.Locals.{locals-rise, local-below, local-first}
 
 -- which of its locals the parameters are
 local-rises : (method : Method) (k l : ℕ) → k < l → l < param_count method → param_local method k < param_local method l
 local-rises method = locals-rise (is_member method.flags) method.types.params
+
+pub has_places : (method : Method) (P : ℕ) (order : Order) → IsOrderOf P method.locals method.stack order → HasPlaces method order
+has_places method P order is = record {
+  places_counted = is.places_counted;
+  slots_counted = is.slots_counted;
+  place_within = λ z lt. (is.places_found z lt).0;
+  slot_within = λ j lt. (is.slots_found j lt).0;
+  slot_at_place = λ z lt. (is.places_found z lt).1;
+  place_of_slot = λ j lt. (is.slots_found j lt).1;
+  dirt = is.dirt;
+  exc = is.exc;
+}
 
 module _ (method : Method) (P : ℕ) (order : Order) (below : (k : ℕ) → k < param_count method → param_local method k < P) (is : IsOrderOf P method.locals method.stack order) where
   first-place : slice_index order.places (param_local method 0) ≡ slice_index order.places 0
@@ -32,18 +44,11 @@ module _ (method : Method) (P : ℕ) (order : Order) (below : (k : ℕ) → k < 
 
   pub method_order : IsOrder method order
   method_order = record {
-    places_counted = is.places_counted;
-    slots_counted = is.slots_counted;
-    place_within = λ z lt. (is.places_found z lt).0;
-    slot_within = λ j lt. (is.slots_found j lt).0;
-    slot_at_place = λ z lt. (is.places_found z lt).1;
-    place_of_slot = λ j lt. (is.slots_found j lt).1;
+    placed = has_places method P order is;
     params = λ k l lt less. is.params (param_local method k) (param_local method l) (local-rises method k l lt less) (below l less);
     stack = is.stack;
     after_first = λ some more. (let low = first-place in let same = lowest-place in let less = is.after_first (some-word some) more in omega arith);
     before_second = λ some more. (let same = lowest-place in let low = is.before_second (two-words some) more in let high = second-place some in omega arith);
-    dirt = is.dirt;
-    exc = is.exc;
   }
     where
       some-word : 0 < param_count method → 0 < P

@@ -13,14 +13,14 @@ use Rattle.ja_order.proofs.Locals.{local-below}
 
 -- no two slots are at one place
 one-slot : (method : Method) (order : Order) → IsOrder method order → (y z : ℕ) → y < slot_count method → z < slot_count method → slice_index order.places y ≡ slice_index order.places z → y ≡ z
-one-slot method order is y z ly lz e = sym (is.slot_at_place y ly) ∙ ap (slice_index order.slots) e ∙ is.slot_at_place z lz
+one-slot method order is y z ly lz e = sym (is.placed.slot_at_place y ly) ∙ ap (slice_index order.slots) e ∙ is.placed.slot_at_place z lz
 
 -- all slots but dirt and exc are before them
 before-dirt : (method : Method) (order : Order) → IsOrder method order → (z : ℕ) → z < method.locals + method.stack → slice_index order.places z < method.locals + method.stack
 before-dirt method order is z lt =
-    let w = is.place_within z (omega arith) in
-    let d = is.dirt in
-    let e = is.exc in
+    let w = is.placed.place_within z (omega arith) in
+    let d = is.placed.dirt in
+    let e = is.placed.exc in
     let no-dirt : slice_index order.places z ≢ slice_index order.places (dirt_slot method) = λ same. (let z-is = one-slot method order is z (dirt_slot method) (omega arith) (omega arith) same in omega arith) in
     let no-exc : slice_index order.places z ≢ slice_index order.places (exc_slot method) = λ same. (let z-is = one-slot method order is z (exc_slot method) (omega arith) (omega arith) same in omega arith) in
     omega arith
@@ -77,17 +77,17 @@ module _ (callee caller : Method) (P Q : Order) (base entered ended before after
   pub renaming_rises : (x y u v : ℕ) → Meets callee caller P Q base entered ended before after x y → Meets callee caller P Q base entered ended before after u v → x < u → y < v
   renaming_rises x y u v (argument k lk) (argument l ll) less = arguments-rise k l lk ll less
   renaming_rises x y u v (argument k lk) (answer some room) less = argument-answer k lk some room less
-  renaming_rises x y u v (argument k lk) stored less = let q = value-low k (omega arith) in let d = outer.dirt in let f = later in omega (arith, few)
-  renaming_rises x y u v (argument k lk) thrown less = let q = value-low k (omega arith) in let d = outer.exc in let f = later in omega (arith, few)
+  renaming_rises x y u v (argument k lk) stored less = let q = value-low k (omega arith) in let d = outer.placed.dirt in let f = later in omega (arith, few)
+  renaming_rises x y u v (argument k lk) thrown less = let q = value-low k (omega arith) in let d = outer.placed.exc in let f = later in omega (arith, few)
   renaming_rises x y u v (answer some room) (argument l ll) less = answer-argument l ll some room less
   renaming_rises x y u v (answer some room) (answer some' room') less = absurd (omega arith)
-  renaming_rises x y u v (answer some room) stored less = let q = base-low room in let d = outer.dirt in omega arith
-  renaming_rises x y u v (answer some room) thrown less = let q = base-low room in let d = outer.exc in omega arith
-  renaming_rises x y u v stored (argument l ll) less = let p = param-low l ll in let d = inner.dirt in absurd (omega arith)
-  renaming_rises x y u v stored (answer some room) less = let p = result-low some in let d = inner.dirt in absurd (omega arith)
+  renaming_rises x y u v (answer some room) stored less = let q = base-low room in let d = outer.placed.dirt in omega arith
+  renaming_rises x y u v (answer some room) thrown less = let q = base-low room in let d = outer.placed.exc in omega arith
+  renaming_rises x y u v stored (argument l ll) less = let p = param-low l ll in let d = inner.placed.dirt in absurd (omega arith)
+  renaming_rises x y u v stored (answer some room) less = let p = result-low some in let d = inner.placed.dirt in absurd (omega arith)
   renaming_rises x y u v stored stored less = absurd (omega arith)
-  renaming_rises x y u v stored thrown less = let d = outer.dirt in let e = outer.exc in omega arith
-  renaming_rises x y u v thrown (argument l ll) less = let p = param-low l ll in let d = inner.exc in absurd (omega arith)
-  renaming_rises x y u v thrown (answer some room) less = let p = result-low some in let d = inner.exc in absurd (omega arith)
-  renaming_rises x y u v thrown stored less = let d = inner.dirt in let e = inner.exc in absurd (omega arith)
+  renaming_rises x y u v stored thrown less = let d = outer.placed.dirt in let e = outer.placed.exc in omega arith
+  renaming_rises x y u v thrown (argument l ll) less = let p = param-low l ll in let d = inner.placed.exc in absurd (omega arith)
+  renaming_rises x y u v thrown (answer some room) less = let p = result-low some in let d = inner.placed.exc in absurd (omega arith)
+  renaming_rises x y u v thrown stored less = let d = inner.placed.dirt in let e = inner.placed.exc in absurd (omega arith)
   renaming_rises x y u v thrown thrown less = absurd (omega arith)

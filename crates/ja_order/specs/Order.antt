@@ -35,8 +35,8 @@ pub record HasFrame (method : Method) : Type 0 where
   pub room : param_words method ≤ method.locals
   pub small : method.locals + method.stack ≤ max_frame_values
 
--- this is an order of a method's variables
-pub record IsOrder (method : Method) (order : Order) : Type 0 where
+-- the slots of a method have places
+pub record HasPlaces (method : Method) (order : Order) : Type 0 where
   -- each slot has a place below the number of slots, and each place a slot
   pub places_counted : length order.places ≡ slot_count method
   pub slots_counted : length order.slots ≡ slot_count method
@@ -45,19 +45,24 @@ pub record IsOrder (method : Method) (order : Order) : Type 0 where
   -- a slot is at its place, and a place is that of its slot
   pub slot_at_place : (z : ℕ) → z < slot_count method → slice_index order.slots (slice_index order.places z) ≡ z
   pub place_of_slot : (j : ℕ) → j < slot_count method → slice_index order.places (slice_index order.slots j) ≡ j
+  -- dirt and exc come last
+  pub dirt : slice_index order.places (dirt_slot method) ≡ dirt_slot method
+  pub exc : slice_index order.places (exc_slot method) ≡ exc_slot method
+
+-- this is an order of the variables of a method with code
+pub record IsOrder (method : Method) (order : Order) : Type 0 where
+  pub placed : HasPlaces method order
   -- the locals of parameters are in their order, and so are the values on the stack
   pub params : (k l : ℕ) → k < l → l < param_count method → slice_index order.places (param_local method k) < slice_index order.places (param_local method l)
   pub stack : (k l : ℕ) → k < l → l < method.stack → slice_index order.places (stack_slot method k) < slice_index order.places (stack_slot method l)
   -- the lowest value, where a result is, lies between the first two parameters
   pub after_first : 0 < param_count method → 0 < method.stack → slice_index order.places (param_local method 0) < slice_index order.places (stack_slot method 0)
   pub before_second : 1 < param_count method → 0 < method.stack → slice_index order.places (stack_slot method 0) < slice_index order.places (param_local method 1)
-  -- dirt and exc come last
-  pub dirt : slice_index order.places (dirt_slot method) ≡ dirt_slot method
-  pub exc : slice_index order.places (exc_slot method) ≡ exc_slot method
 
--- the method has this order, where it has code
-abbrev pub HasOrder : Method → Order → Type 0
-HasOrder method order = HasCode method → IsOrder method order
+-- the slots of the method have these places, and where it has code this is an order of its variables
+pub record HasOrder (method : Method) (order : Order) : Type 0 where
+  pub placed : HasPlaces method order
+  pub ordered : HasCode method → IsOrder method order
 
 -- one for each method of a program
 abbrev pub AreOrders : Parts → List Order → Type 0

@@ -49,6 +49,20 @@ impl Frame {
         }
     }
 
+    /// The frame of a method without code, as if it had no parameters.
+    pub fn bare(method: &Method) -> Frame
+        requires { method.now.locals + method.now.stack ≤ max_frame_values }
+        ensures locals { result.locals ≡ method.now.locals }
+        ensures stack { result.stack ≡ method.now.stack }
+        ensures small { IsSmall result }
+    {
+        Frame {
+            params: 0,
+            locals: method.locals as usize,
+            stack: method.stack as usize,
+        }
+    }
+
     /// The number of slots.
     pub fn slots(self) -> usize
         requires { IsSmall self }

@@ -1,4 +1,5 @@
-ghost use Rattle.std.specs.Prelude.{IfOk};
+ghost use Rattle.std.specs.Prelude.{◌+◌, ◌≤◌, IfOk};
+ghost use Rattle.ja_base.specs.Limit.{max_frame_values};
 ghost use Rattle.ja_ir.specs.Lookup.{HasCode};
 ghost use Rattle.ja_order.specs.Inner.{IsOrderOf, IsSmall};
 ghost use Rattle.ja_order.specs.Order.{AreOrders, HasFrame, HasOrder, IsOrder};
@@ -68,18 +69,17 @@ pub fn order_of(alloc: Global, method: &Method) -> Result<Order, Memory>
     frame_order(alloc, method, Frame::of(method))
 }
 
-/// The order of a method's variables, of which there are none where it has no code.
+/// The places of a method's slots: an order of its variables, and where it has no code the plain one.
 fn method_order(alloc: Global, method: &Method) -> Result<Order, Memory>
-    requires { HasCode method.now → HasFrame method.now }
+    requires frame { HasCode method.now → HasFrame method.now }
+    requires small { method.now.locals + method.now.stack ≤ max_frame_values }
     ensures { IfOk result (HasOrder method.now) }
 {
     if method.code.is_empty() {
-        return Ok(Order {
-            places: Seq::new(alloc),
-            slots: Seq::new(alloc),
-        });
+        plain(alloc, Frame::bare(method))
+    } else {
+        order_of(alloc, method)
     }
-    order_of(alloc, method)
 }
 
 /// The orders of the variables of a program's methods, each made once from the method's code.
