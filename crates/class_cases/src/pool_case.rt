@@ -54,9 +54,17 @@ pub fn add_pool_case(
     let bytes = bytes_of(alloc, kept, spelled)?;
     let (read, behind) = read_at(alloc, bytes.as_slice(), place);
     match read {
+        Ok(pool) => Ok(add_read(out, command, &pool, behind)?),
         Err(fault) => add_fault(out, fault),
-        Ok(pool) if command == "pool" => Ok(add_pool(out, &pool, behind)?),
-        Ok(pool) => Ok(add_entries(out, &pool)?),
+    }
+}
+
+/// Adds a pool as a whole, or each entry of it.
+fn add_read(out: &mut String, command: &str, pool: &Pool, behind: u64) -> Result<(), AllocError> {
+    if command == "pool" {
+        add_pool(out, pool, behind)
+    } else {
+        add_entries(out, pool)
     }
 }
 

@@ -7,7 +7,7 @@ use plain_ends::{Frame, Known, Point, Relation, Slot, normal_ends, thrown_ends};
 use std::alloc::Global;
 
 /// A frame with one local, and two values on the stack or as many as there are.
-fn frame(height: u32) -> Frame {
+pub fn frame(height: u32) -> Frame {
     Frame {
         locals: 1,
         stack: height.max(2),
