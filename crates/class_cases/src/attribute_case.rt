@@ -9,16 +9,28 @@ use ja_attributes::{
 use ja_base::File;
 use ja_bytes::Cursor;
 use ja_pool::Pool;
-use std::alloc::Global;
+use std::alloc::{AllocError, Global};
 
 /// Where the flags of a method stand.
 const FLAGS_AT: u64 = 99;
 
-/// The pool that is kept under a name, and the bytes that the words behind it spell.
-fn pool_and_bytes(alloc: Global, kept: &[File], text: &str) -> Result<(Pool, Vec<u8>), CaseFault> {
+/// Adds what comes of attributes over the pool that is kept under a name.
+pub fn add_attributes(
+    alloc: Global,
+    out: &mut String,
+    kept: &[File],
+    command: &str,
+    text: &str,
+) -> Result<(), CaseFault> {
     let (name, spelled) = parted(text);
     let pool = pool_of(alloc, kept_bytes(kept, name)?)?;
-    Ok((pool, bytes_of(alloc, kept, spelled)?))
+    let bytes = bytes_of(alloc, kept, spelled)?;
+    let mut c = Cursor::new(bytes.as_slice());
+    match command {
+        "skip" => add_skip(out, &pool, &mut c),
+        "value" => add_value(out, &pool, &mut c),
+        _ => add_body(alloc, out, &pool, &mut c, command == "body"),
+    }
 }
 
 /// Adds a fault.
@@ -30,29 +42,16 @@ fn add_fault(out: &mut String, fault: AttributeFault) -> Result<(), CaseFault> {
 }
 
 /// Adds what comes of attributes that are passed over.
-pub fn add_skip(
-    alloc: Global,
-    out: &mut String,
-    kept: &[File],
-    text: &str,
-) -> Result<(), CaseFault> {
-    let (pool, bytes) = pool_and_bytes(alloc, kept, text)?;
-    let mut c = Cursor::new(bytes.as_slice());
-    match skip_attributes(&mut c, &pool) {
+fn add_skip(out: &mut String, pool: &Pool, c: &mut Cursor<'_>) -> Result<(), CaseFault> {
+    match skip_attributes(c, pool) {
         Ok(()) => Ok(writeln!(out, "  place {}", c.place())?),
         Err(fault) => add_fault(out, fault),
     }
 }
 
 /// Adds what the attributes of a field say.
-pub fn add_value(
-    alloc: Global,
-    out: &mut String,
-    kept: &[File],
-    text: &str,
-) -> Result<(), CaseFault> {
-    let (pool, bytes) = pool_and_bytes(alloc, kept, text)?;
-    match field_attributes(&mut Cursor::new(bytes.as_slice()), &pool) {
+fn add_value(out: &mut String, pool: &Pool, c: &mut Cursor<'_>) -> Result<(), CaseFault> {
+    match field_attributes(c, pool) {
         Ok(Some(index)) => Ok(writeln!(out, "  value at {index}")?),
         Ok(None) => Ok(writeln!(out, "  no value")?),
         Err(fault) => add_fault(out, fault),
@@ -64,33 +63,30 @@ fn add_method_code(
     out: &mut String,
     pool: &Pool,
     found: &Option<MethodCode>,
-) -> Result<(), CaseFault> {
+) -> Result<(), AllocError> {
     match found {
-        None => writeln!(out, "  no code")?,
+        None => writeln!(out, "  no code"),
         Some(found) => {
             writeln!(
                 out,
                 "  stack {} locals {}",
                 found.max_stack, found.max_locals
             )?;
-            add_code_lines(out, Some(pool), &found.code)?;
+            add_code_lines(out, Some(pool), &found.code)
         }
     }
-    Ok(())
 }
 
 /// Adds what the attributes of a method say, which needs a code or is to have none.
-pub fn add_body(
+fn add_body(
     alloc: Global,
     out: &mut String,
-    kept: &[File],
-    text: &str,
+    pool: &Pool,
+    c: &mut Cursor<'_>,
     needs_code: bool,
 ) -> Result<(), CaseFault> {
-    let (pool, bytes) = pool_and_bytes(alloc, kept, text)?;
-    let mut c = Cursor::new(bytes.as_slice());
-    match method_attributes(alloc, &mut c, &pool, needs_code, FLAGS_AT) {
-        Ok(found) => add_method_code(out, &pool, &found),
+    match method_attributes(alloc, c, pool, needs_code, FLAGS_AT) {
+        Ok(found) => Ok(add_method_code(out, pool, &found)?),
         Err(fault) => add_fault(out, fault),
     }
 }

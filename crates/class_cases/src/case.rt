@@ -1,11 +1,11 @@
 //! A case: a command and what it works on.
-use crate::attribute_case::{add_body, add_skip, add_value};
+use crate::attribute_case::add_attributes;
 use crate::class_case::{add_class_cuts, add_first, add_read_class};
 use crate::code_case::add_code;
 use crate::generated_case::add_generated;
 use crate::listing_case::listing_answer;
 use crate::opcode_case::{add_mnemonic, add_opcode};
-use crate::pool_case::{add_entries, add_pool, add_pool_cuts};
+use crate::pool_case::{add_pool_case, add_pool_cuts};
 use crate::spelling::bytes_of;
 use crate::text_case::{add_field, add_method, add_utf8};
 use ja_base::{Bytes, File, Files, Memory, Name};
@@ -90,37 +90,46 @@ fn bytes_answer(
 ) -> Result<String, CaseFault> {
     let mut out = String::new(alloc);
     match command {
-        "utf8" => add_utf8(alloc, &mut out, kept, text)?,
-        "method" => add_method(alloc, &mut out, kept, text)?,
-        "field" => add_field(alloc, &mut out, kept, text)?,
-        "pool" => add_pool(alloc, &mut out, kept, text)?,
-        "entries" => add_entries(alloc, &mut out, kept, text)?,
-        "pool_cuts" => add_pool_cuts(alloc, &mut out, kept, text)?,
+        "pool" | "entries" => add_pool_case(alloc, &mut out, kept, command, text)?,
+        "code" => add_code(alloc, &mut out, kept, text)?,
+        "opcode" => add_opcode(&mut out, text)?,
+        "mnemonic" => add_mnemonic(&mut out, text)?,
+        "skip" | "value" | "body" | "no_body" => {
+            add_attributes(alloc, &mut out, kept, command, text)?
+        }
         "generated" => add_generated(alloc, &mut out, text)?,
-        _ => code_answer(alloc, &mut out, kept, command, text)?,
+        _ => add_of_words(alloc, &mut out, kept, command, text)?,
     }
     Ok(out)
 }
 
-/// Adds what comes of a case of code, of attributes or of a class.
-fn code_answer(
+/// Adds what comes of a case that works on the bytes that all its words spell.
+fn add_of_words(
     alloc: Global,
     out: &mut String,
     kept: &[File],
     command: &str,
     text: &str,
 ) -> Result<(), CaseFault> {
+    let bytes = bytes_of(alloc, kept, text)?;
+    add_of_bytes(alloc, out, command, bytes.as_slice())
+}
+
+/// Adds what comes of a case that works on these bytes alone.
+fn add_of_bytes(
+    alloc: Global,
+    out: &mut String,
+    command: &str,
+    bytes: &[u8],
+) -> Result<(), CaseFault> {
     match command {
-        "code" => add_code(alloc, out, kept, text),
-        "opcode" => add_opcode(out, text),
-        "mnemonic" => add_mnemonic(out, text),
-        "skip" => add_skip(alloc, out, kept, text),
-        "value" => add_value(alloc, out, kept, text),
-        "body" => add_body(alloc, out, kept, text, true),
-        "no_body" => add_body(alloc, out, kept, text, false),
-        "class" => add_read_class(alloc, out, kept, text),
-        "class_cuts" => add_class_cuts(alloc, out, kept, text),
-        "first" => add_first(alloc, out, kept, text),
+        "utf8" => Ok(add_utf8(out, bytes)?),
+        "method" => add_method(alloc, out, bytes),
+        "field" => add_field(alloc, out, bytes),
+        "pool_cuts" => Ok(add_pool_cuts(alloc, out, bytes)?),
+        "class" => add_read_class(alloc, out, bytes),
+        "class_cuts" => Ok(add_class_cuts(alloc, out, bytes)?),
+        "first" => add_first(alloc, out, bytes),
         _ => Err(CaseFault::Notation),
     }
 }

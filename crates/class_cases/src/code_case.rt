@@ -4,7 +4,7 @@ use crate::code_text::add_code_lines;
 use crate::spelling::{bytes_of, kept_bytes};
 use ja_base::File;
 use ja_bytes::{Cursor, End};
-use ja_code::{Code, CodeFault, RawHandler, decode};
+use ja_code::{CodeFault, RawHandler, decode};
 use std::alloc::Global;
 
 /// The most bytes of a code, and the most rows of an exception table.
@@ -37,21 +37,6 @@ fn rows_of(alloc: Global, bytes: &[u8]) -> Result<Vec<RawHandler>, CaseFault> {
     Ok(rows)
 }
 
-/// What code and rows decode to.
-fn decoded(
-    alloc: Global,
-    kept: &[File],
-    code: &[u8],
-    rows: &[RawHandler],
-) -> Result<Result<Code, CodeFault>, CaseFault> {
-    let tags = kept_bytes(kept, "tags")?;
-    let dims = kept_bytes(kept, "dims")?;
-    if code.len() > MOST || rows.len() > MOST {
-        return Err(CaseFault::Notation);
-    }
-    Ok(decode(alloc, code, tags, dims, rows))
-}
-
 /// Adds what the code of a method and its exception table decode to.
 pub fn add_code(
     alloc: Global,
@@ -63,10 +48,25 @@ pub fn add_code(
     let code = bytes_of(alloc, kept, code)?;
     let rows = bytes_of(alloc, kept, rows)?;
     let rows = rows_of(alloc, rows.as_slice())?;
-    match decoded(alloc, kept, code.as_slice(), rows.as_slice())? {
-        Ok(code) => add_code_lines(out, None, &code)?,
-        Err(CodeFault::Memory) => return Err(CaseFault::Memory),
-        Err(fault) => writeln!(out, "  {fault:?}")?,
+    add_decoded(alloc, out, kept, code.as_slice(), rows.as_slice())
+}
+
+/// Adds what code and rows decode to, over the kept pool.
+fn add_decoded(
+    alloc: Global,
+    out: &mut String,
+    kept: &[File],
+    code: &[u8],
+    rows: &[RawHandler],
+) -> Result<(), CaseFault> {
+    let tags = kept_bytes(kept, "tags")?;
+    let dims = kept_bytes(kept, "dims")?;
+    if code.len() > MOST || rows.len() > MOST {
+        return Err(CaseFault::Notation);
     }
-    Ok(())
+    match decode(alloc, code, tags, dims, rows) {
+        Ok(code) => Ok(add_code_lines(out, None, &code)?),
+        Err(CodeFault::Memory) => Err(CaseFault::Memory),
+        Err(fault) => Ok(writeln!(out, "  {fault:?}")?),
+    }
 }

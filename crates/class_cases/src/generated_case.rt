@@ -1,6 +1,6 @@
 //! Cases of generated classes.
 use crate::case::{CaseFault, parted};
-use crate::class_case::add_class_of;
+use crate::class_case::add_read_class;
 use case_text::ShownBytes;
 use ja_base::MAX_GENERATED_CLASSES;
 use ja_generator::generated;
@@ -25,7 +25,7 @@ pub fn add_generated(alloc: Global, out: &mut String, text: &str) -> Result<(), 
     let files = generated(alloc, number, classes)?;
     for file in files.as_slice() {
         writeln!(out, "  file {}", ShownBytes(file.name.bytes()))?;
-        add_class_of(alloc, out, file.bytes.as_slice())?;
+        add_read_class(alloc, out, file.bytes.as_slice())?;
     }
     Ok(())
 }

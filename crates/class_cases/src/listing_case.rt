@@ -1,6 +1,6 @@
 //! Cases of listings.
 use crate::case::CaseFault;
-use crate::class_case::add_class_of;
+use crate::class_case::add_read_class;
 use crate::escape::listing_of;
 use crate::item_text::add_listing;
 use ja_base::Bytes;
@@ -131,7 +131,7 @@ fn add_bytes(out: &mut String, bytes: &[u8]) -> Result<(), AllocError> {
 fn add_written(alloc: Global, out: &mut String, listings: &[Listing]) -> Result<(), CaseFault> {
     for listing in listings {
         let bytes = written(alloc, listing)?;
-        add_class_of(alloc, out, bytes.as_slice())?;
+        add_read_class(alloc, out, bytes.as_slice())?;
     }
     Ok(())
 }

@@ -17,10 +17,10 @@ fn read_at(alloc: Global, bytes: &[u8], place: usize) -> (Result<Pool, PoolFault
 
 /// The pool that begins at the front of bytes.
 pub fn pool_of(alloc: Global, bytes: &[u8]) -> Result<Pool, CaseFault> {
-    match read_at(alloc, bytes, 0) {
-        (Ok(pool), _) => Ok(pool),
-        (Err(PoolFault::Memory), _) => Err(CaseFault::Memory),
-        (Err(_), _) => Err(CaseFault::Notation),
+    match read_pool(alloc, &mut Cursor::new(bytes)) {
+        Ok(pool) => Ok(pool),
+        Err(PoolFault::Memory) => Err(CaseFault::Memory),
+        Err(_) => Err(CaseFault::Notation),
     }
 }
 
@@ -41,24 +41,30 @@ fn add_fault(out: &mut String, fault: PoolFault) -> Result<(), CaseFault> {
     }
 }
 
-/// Adds what is read of a pool as a whole.
-pub fn add_pool(
+/// Adds what is read of a pool, as a whole or each entry.
+pub fn add_pool_case(
     alloc: Global,
     out: &mut String,
     kept: &[File],
+    command: &str,
     text: &str,
 ) -> Result<(), CaseFault> {
     let (place, spelled) = parted(text);
+    let place = number_of(place)?;
     let bytes = bytes_of(alloc, kept, spelled)?;
-    let (read, behind) = read_at(alloc, bytes.as_slice(), number_of(place)?);
+    let (read, behind) = read_at(alloc, bytes.as_slice(), place);
     match read {
         Err(fault) => add_fault(out, fault),
-        Ok(pool) => {
-            writeln!(out, "  place {behind} count {}", pool.count())?;
-            add_numbers(out, "tags", pool.tags())?;
-            Ok(add_numbers(out, "dims", pool.dims())?)
-        }
+        Ok(pool) if command == "pool" => Ok(add_pool(out, &pool, behind)?),
+        Ok(pool) => Ok(add_entries(out, &pool)?),
     }
+}
+
+/// Adds a pool as a whole, and the place behind it.
+fn add_pool(out: &mut String, pool: &Pool, behind: u64) -> Result<(), AllocError> {
+    writeln!(out, "  place {behind} count {}", pool.count())?;
+    add_numbers(out, "tags", pool.tags())?;
+    add_numbers(out, "dims", pool.dims())
 }
 
 /// Adds the entry at an index, if one stands there.
@@ -70,40 +76,25 @@ fn add_entry(out: &mut String, pool: &Pool, index: u32) -> Result<(), AllocError
     writeln!(out, "{}", EntryText(pool, index))
 }
 
-/// Adds each entry that is read of a pool.
-pub fn add_entries(
-    alloc: Global,
-    out: &mut String,
-    kept: &[File],
-    text: &str,
-) -> Result<(), CaseFault> {
-    let (place, spelled) = parted(text);
-    let bytes = bytes_of(alloc, kept, spelled)?;
-    let (read, _) = read_at(alloc, bytes.as_slice(), number_of(place)?);
-    match read {
-        Err(fault) => add_fault(out, fault),
-        Ok(pool) => {
-            for index in 0..pool.count() {
-                add_entry(out, &pool, index)?;
-            }
-            Ok(())
-        }
+/// Adds each entry of a pool.
+fn add_entries(out: &mut String, pool: &Pool) -> Result<(), AllocError> {
+    for index in 0..pool.count() {
+        add_entry(out, pool, index)?;
     }
+    Ok(())
+}
+
+/// The fault of a front of bytes, if it has one.
+fn fault_of_front(alloc: Global, bytes: &[u8], length: usize) -> Option<PoolFault> {
+    let front = bytes.get(..length).unwrap_or(&[]);
+    read_pool(alloc, &mut Cursor::new(front)).err()
 }
 
 /// Adds which fault the fronts of bytes have, from the lengths on at which it is another one than before.
-pub fn add_pool_cuts(
-    alloc: Global,
-    out: &mut String,
-    kept: &[File],
-    text: &str,
-) -> Result<(), CaseFault> {
-    let bytes = bytes_of(alloc, kept, text)?;
+pub fn add_pool_cuts(alloc: Global, out: &mut String, bytes: &[u8]) -> Result<(), AllocError> {
     let mut before = None;
     for length in 0..=bytes.len() {
-        let front = bytes.as_slice().get(..length).unwrap_or(&[]);
-        let (read, _) = read_at(alloc, front, 0);
-        let fault = read.err();
+        let fault = fault_of_front(alloc, bytes, length);
         if before != Some(fault) {
             writeln!(out, "  length {length} {fault:?}")?;
             before = Some(fault);

@@ -56,20 +56,19 @@ fn changed(
     Ok(changed)
 }
 
-/// The bytes after a change, `PLACE` or `PLACE/LENGTH`, by digits.
-fn with_change(
-    alloc: Global,
-    bytes: &[u8],
-    place: &str,
-    digits: &str,
-) -> Result<Vec<u8>, CaseFault> {
+/// Makes a change, `PLACE` or `PLACE/LENGTH`, by digits.
+fn change(alloc: Global, bytes: &mut Vec<u8>, place: &str, digits: &str) -> Result<(), CaseFault> {
     let new = hexadecimal(alloc, digits.as_bytes())?;
+    let (place, length) = place_and_length(place, new.len())?;
+    *bytes = changed(alloc, bytes.as_slice(), place, length, new.as_slice())?;
+    Ok(())
+}
+
+/// The place and the length of a change, which is so long where no length is given.
+fn place_and_length(place: &str, length: usize) -> Result<(usize, usize), CaseFault> {
     match place.split_once('/') {
-        Some((place, length)) => {
-            let (place, length) = (number_of(place)?, number_of(length)?);
-            changed(alloc, bytes, place, length, new.as_slice())
-        }
-        None => changed(alloc, bytes, number_of(place)?, new.len(), new.as_slice()),
+        Some((place, length)) => Ok((number_of(place)?, number_of(length)?)),
+        None => Ok((number_of(place)?, length)),
     }
 }
 
@@ -87,36 +86,48 @@ fn add_times(
     Ok(())
 }
 
-/// The bytes after one more word.
-fn with_word(
+/// Adds the bytes that digits spell.
+fn add_digits(alloc: Global, bytes: &mut Vec<u8>, digits: &str) -> Result<(), CaseFault> {
+    let more = hexadecimal(alloc, digits.as_bytes())?;
+    bytes.extend_from_slice(more.as_slice())?;
+    Ok(())
+}
+
+/// Does what a word with digits says.
+fn take_digits(alloc: Global, bytes: &mut Vec<u8>, word: &str) -> Result<(), CaseFault> {
+    if let Some((place, digits)) = word.split_once('=') {
+        return change(alloc, bytes, place, digits);
+    }
+    match word.split_once('*') {
+        Some((count, digits)) => add_times(alloc, bytes, count, digits),
+        None => add_digits(alloc, bytes, word),
+    }
+}
+
+/// Does what a word says.
+fn take_word(
     alloc: Global,
     kept: &[File],
-    bytes: Vec<u8>,
+    bytes: &mut Vec<u8>,
     word: &str,
-) -> Result<Vec<u8>, CaseFault> {
-    let mut bytes = bytes;
+) -> Result<(), CaseFault> {
     if let Some(name) = word.strip_prefix('@') {
         bytes.extend_from_slice(kept_bytes(kept, name)?)?;
     } else if let Some(text) = word.strip_prefix('"') {
         bytes.extend_from_slice(text.strip_suffix('"').unwrap_or(text).as_bytes())?;
     } else if let Some(length) = word.strip_prefix('<') {
         bytes.truncate(number_of(length)?);
-    } else if let Some((place, digits)) = word.split_once('=') {
-        return with_change(alloc, bytes.as_slice(), place, digits);
-    } else if let Some((count, digits)) = word.split_once('*') {
-        add_times(alloc, &mut bytes, count, digits)?;
     } else {
-        let more = hexadecimal(alloc, word.as_bytes())?;
-        bytes.extend_from_slice(more.as_slice())?;
+        take_digits(alloc, bytes, word)?;
     }
-    Ok(bytes)
+    Ok(())
 }
 
 /// The bytes that words spell.
 pub fn bytes_of(alloc: Global, kept: &[File], text: &str) -> Result<Vec<u8>, CaseFault> {
     let mut bytes = Vec::new(alloc);
     for word in text.split_whitespace() {
-        bytes = with_word(alloc, kept, bytes, word)?;
+        take_word(alloc, kept, &mut bytes, word)?;
     }
     Ok(bytes)
 }

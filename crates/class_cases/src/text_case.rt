@@ -1,24 +1,16 @@
 //! Cases of texts, descriptors and names.
 use crate::case::CaseFault;
-use crate::spelling::bytes_of;
 use case_text::ShownBytes;
-use ja_base::{Desc, File, JavaType};
+use ja_base::{Desc, JavaType};
 use ja_bytes::{DescFault, field_desc, method_desc, modified_utf8};
 use std::alloc::{AllocError, Global};
 
 /// Adds whether bytes are modified UTF-8.
-pub fn add_utf8(
-    alloc: Global,
-    out: &mut String,
-    kept: &[File],
-    text: &str,
-) -> Result<(), CaseFault> {
-    let bytes = bytes_of(alloc, kept, text)?;
-    match modified_utf8(bytes.as_slice()) {
-        Ok(()) => writeln!(out, "  text")?,
-        Err(wrong) => writeln!(out, "  {wrong:?}")?,
+pub fn add_utf8(out: &mut String, bytes: &[u8]) -> Result<(), AllocError> {
+    match modified_utf8(bytes) {
+        Ok(()) => writeln!(out, "  text"),
+        Err(wrong) => writeln!(out, "  {wrong:?}"),
     }
-    Ok(())
 }
 
 /// Adds a type.
@@ -42,34 +34,26 @@ fn add_desc(out: &mut String, desc: &Desc) -> Result<(), AllocError> {
     }
 }
 
-/// Adds what the descriptor of a method says.
-pub fn add_method(
-    alloc: Global,
-    out: &mut String,
-    kept: &[File],
-    text: &str,
-) -> Result<(), CaseFault> {
-    let bytes = bytes_of(alloc, kept, text)?;
-    match method_desc(alloc, bytes.as_slice()) {
-        Ok(desc) => add_desc(out, &desc)?,
-        Err(DescFault::Memory) => return Err(CaseFault::Memory),
-        Err(fault) => writeln!(out, "  {fault:?}")?,
+/// Adds a fault.
+fn add_fault(out: &mut String, fault: DescFault) -> Result<(), CaseFault> {
+    match fault {
+        DescFault::Memory => Err(CaseFault::Memory),
+        other => Ok(writeln!(out, "  {other:?}")?),
     }
-    Ok(())
+}
+
+/// Adds what the descriptor of a method says.
+pub fn add_method(alloc: Global, out: &mut String, bytes: &[u8]) -> Result<(), CaseFault> {
+    match method_desc(alloc, bytes) {
+        Ok(desc) => Ok(add_desc(out, &desc)?),
+        Err(fault) => add_fault(out, fault),
+    }
 }
 
 /// Adds what the descriptor of a field says.
-pub fn add_field(
-    alloc: Global,
-    out: &mut String,
-    kept: &[File],
-    text: &str,
-) -> Result<(), CaseFault> {
-    let bytes = bytes_of(alloc, kept, text)?;
-    match field_desc(alloc, bytes.as_slice()) {
-        Ok(kind) => writeln!(out, "  {kind:?}")?,
-        Err(DescFault::Memory) => return Err(CaseFault::Memory),
-        Err(fault) => writeln!(out, "  {fault:?}")?,
+pub fn add_field(alloc: Global, out: &mut String, bytes: &[u8]) -> Result<(), CaseFault> {
+    match field_desc(alloc, bytes) {
+        Ok(kind) => Ok(writeln!(out, "  {kind:?}")?),
+        Err(fault) => add_fault(out, fault),
     }
-    Ok(())
 }

@@ -1,7 +1,8 @@
 //! Asks the table of nodes and the operations on diagrams, and prints what they answer.
 //!
 //! First come the tables of the stored input, which says how its lines are read; then functions whose diagrams are
-//! known: small ones, 200 random ones, chains of all variables, relations of 500 slots; and two threads.
+//! known: small ones, 200 random ones, chains of all variables, relations of 500 slots; what rules make
+//! of relations of three slots; and two threads.
 #![tactic(auto)]
 
 mod joined;
@@ -10,6 +11,8 @@ mod nodes;
 mod pool;
 mod random;
 mod renamed;
+mod rules;
+mod stepped;
 mod threads;
 
 use ja_base::Memory;
@@ -40,6 +43,7 @@ fn functions_text<R: Threads + Sync>(rt: &R, alloc: Global) -> Result<String, Me
     random::add_random(&mut out, alloc)?;
     large::add_chains(&mut out, alloc)?;
     large::add_kept(&mut out, alloc)?;
+    stepped::add_steps(&mut out, alloc)?;
     threads::add_workers(&mut out, rt, alloc)?;
     Ok(out)
 }

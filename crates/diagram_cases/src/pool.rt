@@ -1,13 +1,15 @@
 //! A worker, and the nodes that it was asked for.
-ghost use Rattle.std.specs.Prelude.{◌≡◌, ◌⊎◌, ◌≤◌, IfSome, IfOk, OnOk};
+ghost use Rattle.std.specs.Prelude.{◌≡◌, ◌⊎◌, ◌≤◌, IsTrue, IfSome, IfOk, OnOk};
 ghost use Rattle.std.specs.List.{All};
 ghost use Rattle.ja_node_core.specs.Node.{Knows};
 ghost use Rattle.ja_node_table.specs.Seats.{IsOf};
-ghost use Rattle.ja_bdd.specs.Meaning.{Keeps};
+ghost use Rattle.ja_bdd.specs.Meaning.{meaning, Keeps};
 ghost use Rattle.ja_bdd.specs.Workers.{IsWorkerOf, seen};
+ghost use Rattle.ja_join.specs.Composed.{LooksIn};
 
 use ja_base::Memory;
 use ja_bdd::{Assign, Copies, Worker};
+use ja_join::{Memo, Rule, after, looks_in, project, step};
 use ja_node_core::AnyAim;
 use ja_node_table::{Node, NodeSeat, NodeTable, Parts};
 use std::alloc::Global;
@@ -27,7 +29,26 @@ pub enum Step {
     Exists(u32),
     ExistsAll(Copies),
     AndExists(Copies),
+    /// What is left of these copies.
+    Project(Copies),
+    /// The first relation and then the second.
+    After,
 }
+
+/// The copies that the first of two relations looks at, and those that the second does.
+const FIRST: Copies = Copies {
+    at_entry: true,
+    at_present: true,
+    at_next: false,
+    at_callee: false,
+};
+
+const SECOND: Copies = Copies {
+    at_entry: false,
+    at_present: true,
+    at_next: true,
+    at_callee: false,
+};
 
 /// The node of a variable or of its negation.
 fn literal(
@@ -49,11 +70,24 @@ fn literal(
     }
 }
 
-/// Makes one operation, of a worker that knows both nodes.
-fn ask(
+/// Whether a node is known to look at these copies alone.
+fn is_in(table: &NodeTable<AnyAim>, worker: &mut Worker<AnyAim>, n: Node, copies: &Copies) -> bool
+    requires worker { IsWorkerOf table.now worker.old }
+    requires known { Knows (seen worker.old) n.number }
+    ensures worker { IsWorkerOf table.now worker.new }
+    ensures keeps { Keeps (seen worker.old) (seen worker.new) }
+    ensures looks { IsTrue result → LooksIn copies.now (meaning (seen worker.new) n.number) }
+{
+    let Ok(looks) = looks_in(worker, table, n, copies) else {
+        return false;
+    };
+    looks
+}
+
+/// Composes two relations, where each looks at its copies alone.
+fn composed(
     table: &NodeTable<AnyAim>,
     worker: &mut Worker<AnyAim>,
-    step: Step,
     f: Node,
     g: Node,
 ) -> Option<Node>
@@ -63,13 +97,38 @@ fn ask(
     ensures keeps { Keeps (seen worker.old) (seen worker.new) }
     ensures known { IfSome result (λ n. Knows (seen worker.new) n.number) }
 {
-    match step {
+    if !is_in(table, worker, f, &FIRST) {
+        return None;
+    }
+    if !is_in(table, worker, g, &SECOND) {
+        return None;
+    }
+    after(worker, table, f, g).ok()
+}
+
+/// Makes one operation, of a worker that knows both nodes.
+fn ask(
+    table: &NodeTable<AnyAim>,
+    worker: &mut Worker<AnyAim>,
+    asked: Step,
+    f: Node,
+    g: Node,
+) -> Option<Node>
+    requires worker { IsWorkerOf table.now worker.old }
+    requires known { Knows (seen worker.old) f.number × Knows (seen worker.old) g.number }
+    ensures worker { IsWorkerOf table.now worker.new }
+    ensures keeps { Keeps (seen worker.old) (seen worker.new) }
+    ensures known { IfSome result (λ n. Knows (seen worker.new) n.number) }
+{
+    match asked {
         Step::Literal(var, value) => literal(table, worker, var.min(LAST), value),
         Step::And => worker.and(table, f, g).ok(),
         Step::Or => worker.or(table, f, g).ok(),
         Step::Exists(var) => worker.exists(table, f, var).ok(),
         Step::ExistsAll(copies) => worker.exists_all(table, f, copies).ok(),
         Step::AndExists(copies) => worker.and_exists(table, f, g, copies).ok(),
+        Step::Project(copies) => project(worker, table, f, &copies).ok(),
+        Step::After => composed(table, worker, f, g),
     }
 }
 
@@ -140,7 +199,7 @@ impl Pool {
     pub fn step(
         &mut self,
         table: &NodeTable<AnyAim>,
-        step: Step,
+        asked: Step,
         f: usize,
         g: usize,
     ) -> Result<usize, Memory>
@@ -149,7 +208,26 @@ impl Pool {
     {
         let f = self.node(f)?;
         let g = self.node(g)?;
-        let Some(made) = ask(table, &mut self.worker, step, f, g) else {
+        let Some(made) = ask(table, &mut self.worker, asked, f, g) else {
+            return Err(Memory);
+        };
+        self.nodes.push(made)?;
+        Ok(self.nodes.len() - 1)
+    }
+
+    /// What a rule makes of a node, by its place.
+    pub fn stepped(
+        &mut self,
+        table: &NodeTable<AnyAim>,
+        memo: &mut Memo,
+        rule: &Rule,
+        r: usize,
+    ) -> Result<usize, Memory>
+        requires { IsWorkerOf table.now self.old.worker × All (λ n. Knows (seen self.old.worker) n.number) self.old.nodes.items }
+        ensures { OnOk result (IsWorkerOf table.now self.new.worker × All (λ n. Knows (seen self.new.worker) n.number) self.new.nodes.items) }
+    {
+        let r = self.node(r)?;
+        let Ok(made) = step(&mut self.worker, memo, table, rule, r) else {
             return Err(Memory);
         };
         self.nodes.push(made)?;

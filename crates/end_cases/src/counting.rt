@@ -27,16 +27,30 @@ fn pairs(alloc: Global, met: bool) -> Result<Vec<(Slot, Slot)>, Memory> {
 /// What is known.
 fn known(alloc: Global, before: Before) -> Result<Known, Memory> {
     let met = before == Before::Met;
+    let known = pairs(alloc, met)?;
+    let reach = pairs(alloc, met)?;
     Ok(Known {
-        pairs: pairs(alloc, met)?,
-        reach: pairs(alloc, met)?,
+        pairs: known,
+        reach,
         library: met,
         is_abstract: before == Before::WithoutCode,
     })
 }
 
-/// How many pairs the normal and the exceptional end of an operation make.
-fn counts(alloc: Global, op: &Op, case: Case) -> Result<(usize, usize), Memory> {
+/// How many pairs a normal end makes.
+fn normal_count(alloc: Global, point: &Point<'_>) -> Result<usize, Memory> {
+    let ends = normal_ends(alloc, point)?;
+    Ok(ends.pairs.len())
+}
+
+/// How many pairs an exceptional end makes.
+fn thrown_count(alloc: Global, point: &Point<'_>) -> Result<usize, Memory> {
+    let ends = thrown_ends(alloc, point)?;
+    Ok(ends.pairs.len())
+}
+
+/// Adds how many pairs the normal and the exceptional end of an operation make.
+fn add_counts(out: &mut String, alloc: Global, op: &Op, case: Case) -> Result<(), Memory> {
     let known = known(alloc, case.before)?;
     let point = Point {
         op,
@@ -44,17 +58,15 @@ fn counts(alloc: Global, op: &Op, case: Case) -> Result<(usize, usize), Memory> 
         frame: frame(case.height),
         known: &known,
     };
-    let normal = normal_ends(alloc, &point)?;
-    let thrown = thrown_ends(alloc, &point)?;
-    Ok((normal.pairs.len(), thrown.pairs.len()))
+    let normal = normal_count(alloc, &point)?;
+    let thrown = thrown_count(alloc, &point)?;
+    Ok(writeln!(out, "{} {normal} {thrown}", case.name)?)
 }
 
 /// Adds the line of a case.
 pub fn add_case(out: &mut String, alloc: Global, number: usize, case: Case) -> Result<(), Memory> {
     let op = operation(alloc, number)?;
-    let (normal, thrown) = counts(alloc, &op, case)?;
-    writeln!(out, "{} {normal} {thrown}", case.name)?;
-    Ok(())
+    add_counts(out, alloc, &op, case)
 }
 
 /// The pairs of a read of a field.

@@ -76,9 +76,10 @@ static ROWS: [Row; 12] = [
 
 /// The type of texts.
 fn text_type(alloc: Global) -> Result<JavaType, Memory> {
+    let name = Name::of(alloc, b"java/lang/String")?;
     Ok(JavaType {
         kind: Kind::R,
-        name: Name::of(alloc, b"java/lang/String")?,
+        name,
     })
 }
 
@@ -98,27 +99,42 @@ fn library_row(alloc: Global, row: Row) -> LibRow {
 fn params(alloc: Global, kind: CallKind) -> Result<JavaTypes, Memory> {
     let mut params = JavaTypes::new(alloc);
     if kind == CallKind::Static {
-        params.push(text_type(alloc)?)?;
+        let text = text_type(alloc)?;
+        params.push(text)?;
     }
     Ok(params)
 }
 
-/// A call that takes one reference and answers one, with the row of a number: the one with number 9 has a
-/// receiver.
-pub fn library_call(alloc: Global, number: usize) -> Result<Op, Memory> {
-    let kind = if number == 9 {
+/// The kind of the call with the row of a number: the one with number 9 has a receiver.
+fn kind_of(number: usize) -> CallKind {
+    if number == 9 {
         CallKind::Virtual
     } else {
         CallKind::Static
-    };
-    Ok(Op::Call(CallOp {
+    }
+}
+
+/// A call of a kind with this row, which takes one reference and answers one.
+fn call_of(alloc: Global, kind: CallKind, row: LibRow) -> Result<CallOp, Memory> {
+    let class = Name::of(alloc, b"A")?;
+    let name = Name::of(alloc, b"a")?;
+    let desc = Name::of(alloc, b"()V")?;
+    let params = params(alloc, kind)?;
+    let text = text_type(alloc)?;
+    Ok(CallOp {
         kind,
-        class: Name::of(alloc, b"A")?,
-        name: Name::of(alloc, b"a")?,
-        desc: Name::of(alloc, b"()V")?,
-        params: params(alloc, kind)?,
-        result: Some(text_type(alloc)?),
-        row: library_row(alloc, ROWS[number % 12]),
+        class,
+        name,
+        desc,
+        params,
+        result: Some(text),
+        row,
         found: None,
-    }))
+    })
+}
+
+/// A call that takes one reference and answers one, with the row of a number.
+pub fn library_call(alloc: Global, number: usize) -> Result<Op, Memory> {
+    let row = library_row(alloc, ROWS[number % 12]);
+    Ok(Op::Call(call_of(alloc, kind_of(number), row)?))
 }

@@ -9,23 +9,31 @@ use ja_ir::{
 };
 use std::alloc::Global;
 
+/// The row of a call that makes something of its arguments.
+fn quiet_row(alloc: Global) -> LibRow {
+    LibRow {
+        flow: RowFlow::Args,
+        effect: RowEffect::Quiet,
+        result: RowResult::Fresh,
+        sinks: Seq::new(alloc),
+        marks: Seq::new(alloc),
+        category: 0,
+    }
+}
+
 /// A static call of a method of two parameters.
 fn call(alloc: Global, name: &[u8]) -> Result<Op, Memory> {
+    let class = Name::of(alloc, b"F")?;
+    let name = Name::of(alloc, name)?;
+    let desc = Name::of(alloc, b"(Ljava/lang/String;I)Ljava/lang/String;")?;
     Ok(Op::Call(CallOp {
         kind: CallKind::Static,
-        class: Name::of(alloc, b"F")?,
-        name: Name::of(alloc, name)?,
-        desc: Name::of(alloc, b"(Ljava/lang/String;I)Ljava/lang/String;")?,
+        class,
+        name,
+        desc,
         params: Seq::new(alloc),
         result: None,
-        row: LibRow {
-            flow: RowFlow::Args,
-            effect: RowEffect::Quiet,
-            result: RowResult::Fresh,
-            sinks: Seq::new(alloc),
-            marks: Seq::new(alloc),
-            category: 0,
-        },
+        row: quiet_row(alloc),
         found: None,
     }))
 }
@@ -65,9 +73,11 @@ fn add_hand_over(code: &mut Instrs, alloc: Global) -> Result<(), Memory>
     ensures inside { OnOk result (All (λ instr. All (λ j. j < 8) instr.next) code.new) }
     ensures size { OnOk result (length code.new ≡ length code.old + 4) }
 {
-    add(code, alloc, 6, call(alloc, b"source")?, &[5])?;
+    let source = call(alloc, b"source")?;
+    add(code, alloc, 6, source, &[5])?;
     add(code, alloc, 9, Op::Load(Kind::P1, 1), &[6])?;
-    add(code, alloc, 10, call(alloc, b"g")?, &[7])?;
+    let called = call(alloc, b"g")?;
+    add(code, alloc, 10, called, &[7])?;
     add(code, alloc, 13, Op::Return(Some(Kind::R)), &[])
 }
 
@@ -91,10 +101,13 @@ fn recursive(alloc: Global) -> Result<Method, Memory>
     ensures inside { IfOk result StaysInside }
     ensures size { IfOk result (λ m. length m.code ≡ 8) }
 {
+    let name = Name::of(alloc, b"f")?;
+    let desc = Name::of(alloc, b"(Ljava/lang/String;I)Ljava/lang/String;")?;
+    let code = code(alloc)?;
     Ok(Method {
         class: ClassId(0),
-        name: Name::of(alloc, b"f")?,
-        desc: Name::of(alloc, b"(Ljava/lang/String;I)Ljava/lang/String;")?,
+        name,
+        desc,
         types: Desc {
             params: Seq::new(alloc),
             result: None,
@@ -103,7 +116,7 @@ fn recursive(alloc: Global) -> Result<Method, Memory>
         flags: 9,
         locals: 2,
         stack: 2,
-        code: code(alloc)?,
+        code,
         handlers: Seq::new(alloc),
     })
 }

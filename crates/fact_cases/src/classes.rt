@@ -7,6 +7,7 @@ use crate::tables::set_of;
 use ja_base::{FieldId, Memory};
 use ja_facts::{ClassSets, FlatRows, Rows};
 use ja_ir::{Program, Token};
+use ja_sets::TokenSet;
 use std::alloc::Global;
 
 /// The least members of two slots, and of what the same two instructions throw.
@@ -39,22 +40,40 @@ fn add_least(out: &mut String, sets: &ClassSets) -> Result<(), Memory> {
 
 /// Names a set for slot 0 before instruction 1 of the main method, and one for what instruction 3 throws.
 fn share_two(alloc: Global, sets: &mut ClassSets) -> Result<(), Memory> {
+    let pool = two_sets(alloc)?;
+    let slots = slot_rows(alloc)?;
+    let thrown = thrown_rows(alloc)?;
+    sets.share(slots, thrown, pool);
+    Ok(())
+}
+
+/// A pool of two sets, of one token each.
+fn two_sets(alloc: Global) -> Result<Rows<TokenSet>, Memory> {
     let mut pool = Rows::new(alloc);
     pool.push(set_of(alloc, 5, 4)?)?;
     pool.push(set_of(alloc, 5, 2)?)?;
+    Ok(pool)
+}
+
+/// The names of the slots of the first method: none before instruction 0, and one before instruction 1.
+fn slot_rows(alloc: Global) -> Result<Rows<FlatRows>, Memory> {
     let mut rows = FlatRows::new(alloc);
     rows.push(&[])?;
     rows.push(&[0])?;
     let mut slots = Rows::new(alloc);
     slots.push(rows)?;
+    Ok(slots)
+}
+
+/// The numbers of what the instructions of the first method throw: only the last of four has a name.
+fn thrown_rows(alloc: Global) -> Result<Rows<Rows<u32>>, Memory> {
     let mut numbers = Rows::new(alloc);
     for number in [0u32, 0, 0, 2] {
         numbers.push(number)?;
     }
     let mut thrown = Rows::new(alloc);
     thrown.push(numbers)?;
-    sets.share(slots, thrown, pool);
-    Ok(())
+    Ok(thrown)
 }
 
 /// Adds what the class sets tell at first, and after a slot and what is thrown are named a set.

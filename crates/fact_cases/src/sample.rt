@@ -1,14 +1,17 @@
 //! The whole program of the definitions, made in memory.
-ghost use Rattle.std.specs.Prelude.{◌≡◌, [], ◌∷◌, None, true, codes, IfOk};
+ghost use Rattle.std.specs.Prelude.{◌≡◌, ◌++◌, [], ◌∷◌, None, true, codes, IfOk, OnOk};
 ghost use Rattle.ja_ir.specs.declared.op.Op.TheVariants.{Return};
 ghost use Rattle.ja_ir.specs.Examples.{method, at};
-ghost use Rattle.ja_ir.specs.Sample.{sink, main, without_code, initializer, selected, sample};
+ghost use Rattle.ja_ir.specs.Sample.{sink, main, constructor, member, without_code, initializer, selected, sample};
 
-use ja_base::{ClassId, Desc, Flags, JavaType, Kind, Memory, MethodId, Name, Seq};
+use ja_base::{
+    ClassId, Desc, Flags, JavaType, JavaTypes, Kind, Memory, MethodId, Name, Numbers, Seq,
+};
 use ja_ir::{
-    CallKind, CallOp, Catch, ClassInfo, ClassInfos, Entries, Entry, Field, Fields, Handler,
-    Handlers, Instr, Instrs, LibRow, Method, MethodAt, Methods, Op, Program, RowEffect, RowFlow,
-    RowResult, Selection, Selections, Site, Sites, Successors, law_sample_is_whole,
+    CallKind, CallOp, Catch, ClassIds, ClassInfo, ClassInfos, Entries, Entry, Field, Fields,
+    Handler, Handlers, Instr, Instrs, LibRow, Method, MethodAt, MethodIds, Methods, Op, Program,
+    RowEffect, RowFlow, RowResult, Selection, Selections, Site, Sites, Successors,
+    law_sample_is_whole,
 };
 use std::alloc::Global;
 
@@ -47,33 +50,61 @@ fn marks(alloc: Global) -> Result<Flags, Memory>
     Ok(marks)
 }
 
+/// The position of the first argument.
+fn first_position(alloc: Global) -> Result<Numbers, Memory>
+    ensures { IfOk result (λ positions. positions ≡ 0 ∷ []) }
+{
+    let mut positions = Seq::new(alloc);
+    positions.push(0)?;
+    Ok(positions)
+}
+
+/// The row of a sink.
+fn sink_row(alloc: Global) -> Result<LibRow, Memory>
+    ensures { IfOk result (λ row. row ≡ sink.row) }
+{
+    let sinks = first_position(alloc)?;
+    let marks = marks(alloc)?;
+    Ok(LibRow {
+        flow: RowFlow::Never,
+        effect: RowEffect::Quiet,
+        result: RowResult::Fresh,
+        sinks,
+        marks,
+        category: 0,
+    })
+}
+
+/// The type of a number, as the one parameter of the sink.
+fn number_params(alloc: Global) -> Result<JavaTypes, Memory>
+    ensures { IfOk result (λ params. params ≡ sink.params) }
+{
+    let name = Name::of(alloc, b"I")?;
+    let mut params = Seq::new(alloc);
+    params.push(JavaType {
+        kind: Kind::P1,
+        name,
+    })?;
+    Ok(params)
+}
+
 /// A call of a sink of one number.
 fn sink(alloc: Global) -> Result<CallOp, Memory>
     ensures { IfOk result (λ call. call ≡ sink) }
 {
-    let mut params = Seq::new(alloc);
-    params.push(JavaType {
-        kind: Kind::P1,
-        name: Name::of(alloc, b"I")?,
-    })?;
-    let mut sinks = Seq::new(alloc);
-    sinks.push(0)?;
-    let marks = marks(alloc)?;
+    let class = Name::of(alloc, b"demo/Taint")?;
+    let name = Name::of(alloc, b"sink")?;
+    let desc = Name::of(alloc, b"(I)V")?;
+    let params = number_params(alloc)?;
+    let row = sink_row(alloc)?;
     Ok(CallOp {
         kind: CallKind::Static,
-        class: Name::of(alloc, b"demo/Taint")?,
-        name: Name::of(alloc, b"sink")?,
-        desc: Name::of(alloc, b"(I)V")?,
+        class,
+        name,
+        desc,
         params,
         result: None,
-        row: LibRow {
-            flow: RowFlow::Never,
-            effect: RowEffect::Quiet,
-            result: RowResult::Fresh,
-            sinks,
-            marks,
-            category: 0,
-        },
+        row,
         found: Some(MethodAt::Library),
     })
 }
@@ -90,10 +121,12 @@ fn method(
 ) -> Result<Method, Memory>
     ensures { IfOk result (λ m. m ≡ method 0 name.now flags locals stack code handlers) }
 {
+    let name = Name::of(alloc, name)?;
+    let desc = Name::of(alloc, b"()V")?;
     Ok(Method {
         class: ClassId(0),
-        name: Name::of(alloc, name)?,
-        desc: Name::of(alloc, b"()V")?,
+        name,
+        desc,
         types: Desc {
             params: Seq::new(alloc),
             result: None,
@@ -107,15 +140,38 @@ fn method(
     })
 }
 
-/// The method that gives a number to the sink, and throws again what the call throws.
-fn main(alloc: Global) -> Result<Method, Memory>
-    ensures { IfOk result (λ m. m ≡ main) }
+/// Adds a reached instruction with this operation.
+fn add(
+    code: &mut Instrs,
+    alloc: Global,
+    pc: u32,
+    op: Op,
+    next: &[u64],
+    height: u32,
+) -> Result<(), Memory>
+    ensures { OnOk result (code.new ≡ code.old ++ at pc op next.now height ∷ []) }
+{
+    let instr = instr(alloc, pc, op, next, height)?;
+    code.push(instr)
+}
+
+/// The code that gives a number to the sink, and throws again what the call throws.
+fn main_code(alloc: Global) -> Result<Instrs, Memory>
+    ensures { IfOk result (λ code. code ≡ main.code) }
 {
     let mut code = Seq::new(alloc);
-    code.push(instr(alloc, 0, Op::Const(Kind::P1), &[1], 0)?)?;
-    code.push(instr(alloc, 1, Op::Call(sink(alloc)?), &[2], 1)?)?;
-    code.push(instr(alloc, 2, Op::Return(None), &[], 0)?)?;
-    code.push(instr(alloc, 3, Op::Throw, &[], 1)?)?;
+    add(&mut code, alloc, 0, Op::Const(Kind::P1), &[1], 0)?;
+    let sink = sink(alloc)?;
+    add(&mut code, alloc, 1, Op::Call(sink), &[2], 1)?;
+    add(&mut code, alloc, 2, Op::Return(None), &[], 0)?;
+    add(&mut code, alloc, 3, Op::Throw, &[], 1)?;
+    Ok(code)
+}
+
+/// The handler of all that the first two instructions throw.
+fn main_handlers(alloc: Global) -> Result<Handlers, Memory>
+    ensures { IfOk result (λ handlers. handlers ≡ main.handlers) }
+{
     let mut handlers = Seq::new(alloc);
     handlers.push(Handler {
         start: 0,
@@ -123,15 +179,32 @@ fn main(alloc: Global) -> Result<Method, Memory>
         target: 3,
         catch: Catch::All,
     })?;
+    Ok(handlers)
+}
+
+/// The method that gives a number to the sink, and throws again what the call throws.
+fn main(alloc: Global) -> Result<Method, Memory>
+    ensures { IfOk result (λ m. m ≡ main) }
+{
+    let code = main_code(alloc)?;
+    let handlers = main_handlers(alloc)?;
     method(alloc, b"main", 0x0009, 0, 1, code, handlers)
+}
+
+/// The code that returns at once.
+fn return_code(alloc: Global) -> Result<Instrs, Memory>
+    ensures { IfOk result (λ code. code ≡ at 0 (Return None) [] 0 ∷ []) }
+{
+    let mut code = Seq::new(alloc);
+    add(&mut code, alloc, 0, Op::Return(None), &[], 0)?;
+    Ok(code)
 }
 
 /// A method with a receiver that returns at once.
 fn returns(alloc: Global, name: &[u8]) -> Result<Method, Memory>
     ensures { IfOk result (λ m. m ≡ method 0 name.now 1 1 0 (at 0 (Return None) [] 0 ∷ []) []) }
 {
-    let mut code = Seq::new(alloc);
-    code.push(instr(alloc, 0, Op::Return(None), &[], 0)?)?;
+    let code = return_code(alloc)?;
     method(alloc, name, 0x0001, 1, 0, code, Seq::new(alloc))
 }
 
@@ -147,20 +220,39 @@ fn without_code(alloc: Global) -> Result<Method, Memory>
 fn initializer(alloc: Global) -> Result<Method, Memory>
     ensures { IfOk result (λ m. m ≡ initializer) }
 {
-    let mut code = Seq::new(alloc);
-    code.push(instr(alloc, 0, Op::Return(None), &[], 0)?)?;
+    let code = return_code(alloc)?;
     method(alloc, b"<clinit>", 0x0008, 0, 0, code, Seq::new(alloc))
+}
+
+/// The first two methods.
+fn first_methods(alloc: Global) -> Result<Methods, Memory>
+    ensures { IfOk result (λ list. list ≡ main ∷ constructor ∷ []) }
+{
+    let mut list = Seq::new(alloc);
+    let first = main(alloc)?;
+    list.push(first)?;
+    let second = returns(alloc, b"<init>")?;
+    list.push(second)?;
+    Ok(list)
+}
+
+/// Adds the method with a receiver, and the one without code.
+fn add_methods(list: &mut Methods, alloc: Global) -> Result<(), Memory>
+    ensures { OnOk result (list.new ≡ list.old ++ member ∷ without_code ∷ []) }
+{
+    let third = returns(alloc, b"m")?;
+    list.push(third)?;
+    let fourth = without_code(alloc)?;
+    list.push(fourth)
 }
 
 fn methods(alloc: Global) -> Result<Methods, Memory>
     ensures { IfOk result (λ list. list ≡ sample.methods) }
 {
-    let mut list = Seq::new(alloc);
-    list.push(main(alloc)?)?;
-    list.push(returns(alloc, b"<init>")?)?;
-    list.push(returns(alloc, b"m")?)?;
-    list.push(without_code(alloc)?)?;
-    list.push(initializer(alloc)?)?;
+    let mut list = first_methods(alloc)?;
+    add_methods(&mut list, alloc)?;
+    let last = initializer(alloc)?;
+    list.push(last)?;
     Ok(list)
 }
 
@@ -168,50 +260,79 @@ fn methods(alloc: Global) -> Result<Methods, Memory>
 fn selection(alloc: Global, name: &[u8], target: MethodAt) -> Result<Selection, Memory>
     ensures { IfOk result (λ s. s ≡ record { name = name.now; desc = codes "()V"; target = target }) }
 {
-    Ok(Selection {
-        name: Name::of(alloc, name)?,
-        desc: Name::of(alloc, b"()V")?,
-        target,
-    })
+    let name = Name::of(alloc, name)?;
+    let desc = Name::of(alloc, b"()V")?;
+    Ok(Selection { name, desc, target })
 }
 
 fn selections(alloc: Global) -> Result<Selections, Memory>
     ensures { IfOk result (λ list. list ≡ selected) }
 {
     let mut list = Seq::new(alloc);
-    list.push(selection(alloc, b"m", MethodAt::Program(MethodId(2)))?)?;
-    list.push(selection(alloc, b"n", MethodAt::Abstract(MethodId(3)))?)?;
+    let first = selection(alloc, b"m", MethodAt::Program(MethodId(2)))?;
+    list.push(first)?;
+    let second = selection(alloc, b"n", MethodAt::Abstract(MethodId(3)))?;
+    list.push(second)?;
     Ok(list)
+}
+
+/// The class above the class: itself.
+fn supers(alloc: Global) -> Result<ClassIds, Memory>
+    ensures { IfOk result (λ list. list ≡ record { 0 = 0 } ∷ []) }
+{
+    let mut list = Seq::new(alloc);
+    list.push(ClassId(0))?;
+    Ok(list)
+}
+
+/// The class initialiser of the class.
+fn inits(alloc: Global) -> Result<MethodIds, Memory>
+    ensures { IfOk result (λ list. list ≡ record { 0 = 4 } ∷ []) }
+{
+    let mut list = Seq::new(alloc);
+    list.push(MethodId(4))?;
+    Ok(list)
+}
+
+/// The class.
+fn class(alloc: Global) -> Result<ClassInfo, Memory>
+    ensures { IfOk result (λ class. sample.classes ≡ class ∷ []) }
+{
+    let name = Name::of(alloc, b"A")?;
+    let file = Name::of(alloc, b"A")?;
+    let supers = supers(alloc)?;
+    let selections = selections(alloc)?;
+    let inits = inits(alloc)?;
+    Ok(ClassInfo {
+        name,
+        file,
+        flags: 0x0421,
+        absorbing: false,
+        supers,
+        selections,
+        inits,
+    })
 }
 
 fn classes(alloc: Global) -> Result<ClassInfos, Memory>
     ensures { IfOk result (λ list. list ≡ sample.classes) }
 {
-    let mut supers = Seq::new(alloc);
-    supers.push(ClassId(0))?;
-    let mut inits = Seq::new(alloc);
-    inits.push(MethodId(4))?;
+    let class = class(alloc)?;
     let mut list = Seq::new(alloc);
-    list.push(ClassInfo {
-        name: Name::of(alloc, b"A")?,
-        file: Name::of(alloc, b"A")?,
-        flags: 0x0421,
-        absorbing: false,
-        supers,
-        selections: selections(alloc)?,
-        inits,
-    })?;
+    list.push(class)?;
     Ok(list)
 }
 
 fn fields(alloc: Global) -> Result<Fields, Memory>
     ensures { IfOk result (λ list. list ≡ sample.fields) }
 {
+    let name = Name::of(alloc, b"a")?;
+    let desc = Name::of(alloc, b"I")?;
     let mut list = Seq::new(alloc);
     list.push(Field {
         class: ClassId(0),
-        name: Name::of(alloc, b"a")?,
-        desc: Name::of(alloc, b"I")?,
+        name,
+        desc,
         flags: 0,
         text: false,
     })?;
@@ -222,11 +343,12 @@ fn fields(alloc: Global) -> Result<Fields, Memory>
 fn entry(alloc: Global, method: u32) -> Result<Entry, Memory>
     ensures { IfOk result (λ e. e ≡ record { class = record { 0 = 0 }; method = record { 0 = method }; marked = []; marks = true ∷ [] }) }
 {
+    let marks = marks(alloc)?;
     Ok(Entry {
         class: ClassId(0),
         method: MethodId(method),
         marked: Seq::new(alloc),
-        marks: marks(alloc)?,
+        marks,
     })
 }
 
@@ -234,22 +356,24 @@ fn entries(alloc: Global) -> Result<Entries, Memory>
     ensures { IfOk result (λ list. list ≡ sample.entries) }
 {
     let mut list = Seq::new(alloc);
-    list.push(entry(alloc, 0)?)?;
-    list.push(entry(alloc, 2)?)?;
+    let first = entry(alloc, 0)?;
+    list.push(first)?;
+    let second = entry(alloc, 2)?;
+    list.push(second)?;
     Ok(list)
 }
 
 fn sites(alloc: Global) -> Result<Sites, Memory>
     ensures { IfOk result (λ list. list ≡ sample.sites) }
 {
-    let mut positions = Seq::new(alloc);
-    positions.push(0)?;
+    let positions = first_position(alloc)?;
+    let target = Name::of(alloc, b"demo/Taint.sink(I)V")?;
     let mut list = Seq::new(alloc);
     list.push(Site {
         method: MethodId(0),
         index: 1,
         positions,
-        target: Name::of(alloc, b"demo/Taint.sink(I)V")?,
+        target,
         category: 0,
     })?;
     Ok(list)

@@ -2,7 +2,7 @@
 //!
 //! The program has one class, so five tokens, one field, and five methods: one of a constant, a call, a
 //! return and a throw, three of a return, and one without code.
-ghost use Rattle.std.specs.Prelude.{◌≡◌, ◌<◌};
+ghost use Rattle.std.specs.Prelude.{◌≡◌, ◌<◌, [], ◌∷◌, false, replicate, IfOk};
 ghost use Rattle.ja_ir.specs.Sample.{sample};
 
 use crate::sample::{CONSTRUCTOR, MAIN, MEMBER, WITHOUT_CODE};
@@ -69,16 +69,54 @@ pub fn add_calls(out: &mut String, alloc: Global, program: &Program) -> Result<(
     let mut graph = CallGraph::new(alloc, program)?;
     graph.add(MAIN, 1);
     graph.add(MEMBER, 0);
+    share_calls(alloc, &mut graph)?;
+    add_said(out, &graph)
+}
+
+/// Names a target and a taker for instruction 1 of the main method.
+fn share_calls(alloc: Global, graph: &mut CallGraph) -> Result<(), Memory> {
+    share_target(alloc, graph)?;
+    share_taker(alloc, graph)
+}
+
+/// Names where the call in instruction 1 of the main method goes.
+fn share_target(alloc: Global, graph: &mut CallGraph) -> Result<(), Memory> {
+    let pool = target_pool(alloc)?;
+    let numbers = two_names(alloc, 0, 1)?;
+    graph.share_targets(numbers, pool);
+    Ok(())
+}
+
+/// Names what the call in instruction 1 of the main method puts its arguments into.
+fn share_taker(alloc: Global, graph: &mut CallGraph) -> Result<(), Memory> {
+    let pool = taker_pool(alloc)?;
+    let numbers = two_names(alloc, 0, 1)?;
+    graph.share_takers(numbers, pool);
+    Ok(())
+}
+
+/// A pool of one: a method and the library.
+fn target_pool(alloc: Global) -> Result<Rows<Targets>, Memory> {
+    let targets = both_targets(alloc)?;
+    let mut pool = Rows::new(alloc);
+    pool.push(targets)?;
+    Ok(pool)
+}
+
+/// Targets: a method and the library.
+fn both_targets(alloc: Global) -> Result<Targets, Memory> {
     let mut targets = Targets::new(alloc);
     targets.methods.push(2)?;
     targets.library = true;
-    let mut target_pool = Rows::new(alloc);
-    target_pool.push(targets)?;
-    graph.share_targets(rows_of(alloc, &[0, 1])?, target_pool);
-    let mut taker_pool = Rows::new(alloc);
-    taker_pool.push(set_of(alloc, 5, 4)?)?;
-    graph.share_takers(rows_of(alloc, &[0, 1])?, taker_pool);
-    add_said(out, &graph)
+    Ok(targets)
+}
+
+/// A pool of one set, of one token.
+fn taker_pool(alloc: Global) -> Result<Rows<TokenSet>, Memory> {
+    let set = set_of(alloc, 5, 4)?;
+    let mut pool = Rows::new(alloc);
+    pool.push(set)?;
+    Ok(pool)
 }
 
 /// The set of one number below a bound above 4.
@@ -90,15 +128,24 @@ pub fn set_of(alloc: Global, n: u32, member: u32) -> Result<TokenSet, Memory>
     Ok(set)
 }
 
-/// Rows whose first, the one row, has these numbers.
-fn rows_of(alloc: Global, numbers: &[u32]) -> Result<Rows<Rows<u32>>, Memory> {
-    let mut row = Rows::new(alloc);
-    for number in numbers {
-        row.push(*number)?;
-    }
+/// Rows of which the first, the one row, has two names.
+fn two_names(alloc: Global, first: u32, second: u32) -> Result<Rows<Rows<u32>>, Memory>
+    ensures { IfOk result (λ rows. rows ≡ (first ∷ second ∷ []) ∷ []) }
+{
+    let row = row_of_two(alloc, first, second)?;
     let mut rows = Rows::new(alloc);
     rows.push(row)?;
     Ok(rows)
+}
+
+/// A row of two names.
+fn row_of_two(alloc: Global, first: u32, second: u32) -> Result<Rows<u32>, Memory>
+    ensures { IfOk result (λ row. row ≡ first ∷ second ∷ []) }
+{
+    let mut row = Rows::new(alloc);
+    row.push(first)?;
+    row.push(second)?;
+    Ok(row)
 }
 
 /// Adds what the graph says of some instructions.
@@ -160,36 +207,51 @@ pub fn add_first_pairs(out: &mut String, alloc: Global, program: &Program) -> Re
     Ok(writeln!(out, "pairs at first {held}, reach {reached}")?)
 }
 
+/// The pool of one set of pairs.
+fn pool_of(alloc: Global, set: PairSet) -> Result<Rows<PairSet>, Memory>
+    ensures { IfOk result (λ pool. pool ≡ set ∷ []) }
+{
+    let mut pool = Rows::new(alloc);
+    pool.push(set)?;
+    Ok(pool)
+}
+
+/// The heap pairs before two instructions, of which the second is named this set.
+fn pairs_named(alloc: Global, set: PairSet) -> Result<Pairs, Memory>
+    ensures { IfOk result (λ pairs. pairs ≡ (replicate 6 (replicate 6 false) ∷ set ∷ []) ∷ []) }
+{
+    let pool = pool_of(alloc, set)?;
+    let names = two_names(alloc, 7, 0)?;
+    let none = PairSet::new(alloc, 6)?;
+    Ok(Pairs::shared(names, pool, none))
+}
+
 /// Adds which heap pairs there are before two instructions, of which the second is named a pair.
 pub fn add_pairs(out: &mut String, alloc: Global) -> Result<(), Memory> {
     let mut set = PairSet::new(alloc, 6)?;
     let added = set.add((4, 0));
-    let mut pool = Rows::new(alloc);
-    pool.push(set)?;
-    let mut row = Rows::new(alloc);
-    row.push(7u32)?;
-    row.push(0)?;
-    let mut names = Rows::new(alloc);
-    names.push(row)?;
-    let pairs = Pairs::shared(names, pool, PairSet::new(alloc, 6)?);
+    let pairs = pairs_named(alloc, set)?;
     let held = pairs.at(MAIN, 1).contains((4, 0));
     let turned = pairs.at(MAIN, 1).contains((0, 4));
     let before = pairs.at(MAIN, 0).contains((4, 0));
     Ok(writeln!(out, "pairs added {added}: {held} {turned} {before}")?)
 }
 
+/// The reachable pairs before two instructions, of which the first is named this set.
+fn reach_named(alloc: Global, set: PairSet) -> Result<Reach, Memory>
+    ensures { IfOk result (λ pairs. pairs ≡ (set ∷ replicate 6 (replicate 6 false) ∷ []) ∷ []) }
+{
+    let pool = pool_of(alloc, set)?;
+    let names = two_names(alloc, 0, 1)?;
+    let none = PairSet::new(alloc, 6)?;
+    Ok(Reach::shared(names, pool, none))
+}
+
 /// Adds which reachable pairs there are before two instructions, of which the first is named a pair.
 pub fn add_reach(out: &mut String, alloc: Global) -> Result<(), Memory> {
     let mut set = PairSet::new(alloc, 6)?;
     let added = set.add((3, 2));
-    let mut pool = Rows::new(alloc);
-    pool.push(set)?;
-    let mut row = Rows::new(alloc);
-    row.push(0u32)?;
-    row.push(1)?;
-    let mut names = Rows::new(alloc);
-    names.push(row)?;
-    let reach = Reach::shared(names, pool, PairSet::new(alloc, 6)?);
+    let reach = reach_named(alloc, set)?;
     let held = reach.at(MAIN, 0).contains((3, 2));
     let turned = reach.at(MAIN, 0).contains((2, 3));
     let after = reach.at(MAIN, 1).contains((3, 2));

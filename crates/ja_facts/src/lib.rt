@@ -23,7 +23,8 @@ pub use holds::Holds;
 pub use law::{
     law_empty_heaps_tell_nothing, law_empty_tells_nothing, law_example, law_joint_is_fixed,
     law_least_is_below, law_least_is_solution, law_load_moves, law_more_positions_lose_nothing,
-    law_name_prints, law_nothing_warns, law_report_without_sites, law_rounds_add, law_tables_tell_kept,
+    law_name_prints, law_nothing_warns, law_report_without_sites, law_rounds_add,
+    law_tables_tell_kept,
 };
 pub use pairs::{Pairs, Reach};
 pub use params::param_count;

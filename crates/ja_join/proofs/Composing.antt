@@ -1,6 +1,6 @@
 -- What a composition looks at, and its renaming.
-use Rattle.std.proofs.Common.{◌≡◌, ◌≢◌, ℕ, ◌+◌, ◌-◌, ◌*◌, ◌<◌, ◌≤◌, Bool, true, false, refl, sym, ap, ◌∙◌, subst, arith, ◌⊎◌, inl, inr, ⊎_elim}
-use Rattle.std.specs.Prelude.{◌&&◌, ◌%◌, ◌==◌, nat_lt, if◌then◌else◌}
+use Rattle.std.proofs.Common.{◌≡◌, ◌≢◌, ℕ, zero, suc, ◌+◌, ◌-◌, ◌*◌, ◌<◌, ◌≤◌, Bool, true, false, refl, sym, ap, ◌∙◌, subst, arith, ◌⊎◌, inl, inr, ⊎_elim}
+use Rattle.std.specs.Prelude.{◌&&◌, not, ◌%◌, ◌==◌, nat_lt, if◌then◌else◌}
 use Rattle.std.proofs.lemmas.Bool.{and_parts, and_from, cases_eq, cases_lt, eq-eqb, ne_eqb, eqb-true, eqb-false, ltb-true, ltb-false, lt-ltb}
 use mathlib.Core.Logic.{dite}
 use native.Mathlib.Decide.{ℕ_discrete}
@@ -9,12 +9,13 @@ use Rattle.ja_node_core.specs.Node.{Words}
 use Rattle.ja_node_core.proofs.Reduced.{with_var_other}
 use Rattle.ja_bdd.specs.Functions.{Function, with_var, both, renamed, IsFree, KeepsOrder}
 use Rattle.ja_bdd.specs.Meaning.{Keeps}
-use Rattle.ja_bdd.specs.Copies.{in_copies, all_forgotten}
-use Rattle.ja_bdd.proofs.Fixing.{fixed_free, free_op}
+use Rattle.ja_bdd.specs.declared.copies.Copies.{Copies}
+use Rattle.ja_bdd.specs.Copies.{in_copies, forgotten_if, forgotten_below, all_forgotten}
+use Rattle.ja_bdd.proofs.Fixing.{fixed_free, forgotten_free, free_op}
 use Rattle.ja_bdd.proofs.Named.{IsSmall}
 use Rattle.ja_bdd.proofs.Quantified.{left_fixed}
 use Rattle.ja_bdd.proofs.Existing.{left_true}
-use Rattle.ja_join.specs.Composed.{present_alone, entry_and_present, present_and_next, LooksIn, earlier, composed}
+use Rattle.ja_join.specs.Composed.{others_of, present_alone, entry_and_present, present_and_next, LooksIn, earlier, composed}
 
 one_truth : (p q : Bool) → (p ≡ true → q ≡ true) → (q ≡ true → p ≡ true) → p ≡ q
 one_truth true q there back = sym (there refl)
@@ -22,7 +23,7 @@ one_truth false true there back = back refl
 one_truth false false there back = refl
 
 -- what is forgotten is not looked at
-left_gone : (goes : ℕ → Bool) (φ : Function) (u : ℕ) → goes u ≡ true → u ≤ 4094 → IsFree u (all_forgotten goes φ)
+pub left_gone : (goes : ℕ → Bool) (φ : Function) (u : ℕ) → goes u ≡ true → u ≤ 4094 → IsFree u (all_forgotten goes φ)
 left_gone goes φ u gone le c a = one_truth (all_forgotten goes φ (with_var a u c)) (all_forgotten goes φ a)
     (λ t. let x = (left_true goes φ (with_var a u c)).0 t in (left_true goes φ a).1 (x.0, (λ w stays. x.1 w stays ∙ with_var_other a u c w (apart w stays)), x.2))
     (λ t. let x = (left_true goes φ a).0 t in (left_true goes φ (with_var a u c)).1 (x.0, (λ w stays. x.1 w stays ∙ sym (with_var_other a u c w (apart w stays))), x.2))
@@ -35,7 +36,7 @@ left_still : (goes : ℕ → Bool) (φ : Function) (u : ℕ) → goes u ≡ fals
 left_still goes φ u stays free c a = ap (λ (χ : Function). χ a) (sym (left_fixed goes u c φ stays)) ∙ ap (λ (χ : Function). all_forgotten goes χ a) (fixed_free u c φ free)
 
 -- a function of low variables looks at no high one
-small_free : (φ : Function) → IsSmall φ → (u : ℕ) → 4094 < u → IsFree u φ
+pub small_free : (φ : Function) → IsSmall φ → (u : ℕ) → 4094 < u → IsFree u φ
 small_free φ small u high c a = small (with_var a u c) a (λ w ge lt. with_var_other a u c w (λ e. absurd (omega arith)))
 
 -- a variable at the entry, or a next one, that is less than a next one is less than the one before it
@@ -44,6 +45,42 @@ apart_zero u v pu pv left right lt even next = omega arith
 
 apart_two : (u v pu pv : ℕ) → pu ≤ u → pv ≡ v - 1 → u < v → u % 4 ≡ 2 → v % 4 ≡ 2 → pu < pv
 apart_two u v pu pv left right lt even next = omega arith
+
+-- a copy is among those that others are not
+others_in : (c : Copies) (v : ℕ) → in_copies (others_of c) v ≡ not (in_copies c v)
+others_in c v = by_tests (v % 4 == 0) (v % 4 == 1) (v % 4 == 2)
+  where
+    by_tests : (p q r : Bool) → (if p then not c.at_entry else (if q then not c.at_present else (if r then not c.at_next else not c.at_callee)))
+        ≡ not (if p then c.at_entry else (if q then c.at_present else (if r then c.at_next else c.at_callee)))
+    by_tests true q r = refl
+    by_tests false true r = refl
+    by_tests false false true = refl
+    by_tests false false false = refl
+
+-- a function that is not changed where all other copies are forgotten looks at these alone
+pub rest_looks : (c : Copies) (φ : Function) → IsSmall φ → all_forgotten (in_copies (others_of c)) φ ≡ φ → LooksIn c φ
+rest_looks c φ small same v out = ⊎_elim
+    (λ high. small_free φ small v high)
+    (λ low. subst (IsFree v) same (left_gone (in_copies (others_of c)) φ v (others_in c v ∙ ap not out) low))
+    (cases_lt 4094 v)
+
+-- what a function does not look at can be forgotten
+below_free : (goes : ℕ → Bool) (φ : Function) → ((v : ℕ) → goes v ≡ true → IsFree v φ) → (n : ℕ) → forgotten_below n goes φ ≡ φ
+unfolding forgotten_below
+below_free goes φ free zero = refl
+below_free goes φ free (suc n) = ap (forgotten_if (goes n) n) (below_free goes φ free n) ∙ by_case (goes n) (free n)
+  where
+    by_case : (b : Bool) → (b ≡ true → IsFree n φ) → forgotten_if b n φ ≡ φ
+    by_case true is_free = forgotten_free n φ (is_free refl)
+    by_case false is_free = refl
+
+not_true : (b : Bool) → not b ≡ true → b ≡ false
+not_true false e = refl
+not_true true e = sym e
+
+pub looks_rest : (c : Copies) (φ : Function) → LooksIn c φ → all_forgotten (in_copies (others_of c)) φ ≡ φ
+unfolding all_forgotten
+looks_rest c φ looks = below_free (in_copies (others_of c)) φ (λ v gone. looks v (not_true (in_copies c v) (sym (others_in c v) ∙ gone))) 4095
 
 module _ (φ ρ : Function) (φ_in : LooksIn entry_and_present φ) (ρ_in : LooksIn present_and_next ρ) where
   joined : Function

@@ -1,1 +1,7 @@
 pub mod Composing
+pub mod Stepping
+pub mod Leading
+pub mod Aiming
+pub mod Remembering
+pub mod Passing
+pub mod Asking

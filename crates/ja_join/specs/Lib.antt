@@ -1,1 +1,5 @@
 pub mod Composed
+pub mod Ascending
+pub mod Moves
+pub mod Steps
+pub mod Inner

@@ -1,4 +1,4 @@
-ghost use Rattle.std.specs.Prelude.{◌≡◌, ◌⊎◌, ℕ, ◌≤◌, IfOk, IfErr};
+ghost use Rattle.std.specs.Prelude.{◌≡◌, ◌⊎◌, ◌↔◌, ℕ, ◌≤◌, IsTrue, IfOk, IfErr};
 ghost use Rattle.ja_node_core.specs.Node.{Knows};
 ghost use Rattle.ja_node_table.specs.Seats.{aim_of};
 ghost use Rattle.ja_bdd.specs.Functions.{both, IsAimed};
@@ -45,6 +45,30 @@ pub fn project<A: Aim>(
     ensures full { IfErr result (LacksRoomWithin table.now (seen worker.new) (in_copies (others_of keep.now)) (meaning (seen worker.old) r.number)) }
 {
     worker.exists_all(table, r, others(keep))
+}
+
+/// Whether a known node looks at variables of these copies alone.
+///
+/// `Full` comes as in `project`, of which this asks what is left.
+pub fn looks_in<A: Aim>(
+    worker: &mut Worker<A>,
+    table: &NodeTable<A>,
+    n: Node,
+    copies: &Copies,
+) -> Result<bool, Full<A>>
+    requires worker { IsWorkerOf table.now worker.old }
+    requires known { Knows (seen worker.old) n.number }
+    requires aim { IsAimedThroughout (A.aims (aim_of table.now)) (in_copies (others_of copies.now)) (meaning (seen worker.old) n.number) }
+    ensures worker { IsWorkerOf table.now worker.new }
+    ensures keeps { Keeps (seen worker.old) (seen worker.new) }
+    ensures ok { IfOk result (λ looks. IsTrue looks ↔ LooksIn copies.now (meaning (seen worker.old) n.number)) }
+    ensures full { IfErr result (LacksRoomWithin table.now (seen worker.new) (in_copies (others_of copies.now)) (meaning (seen worker.old) n.number)) }
+{
+    let rest = match project(worker, table, n, copies) {
+        Ok(rest) => rest,
+        Err(full) => return Err(full),
+    };
+    Ok(worker.same(rest, n))
 }
 
 /// The copy at present.

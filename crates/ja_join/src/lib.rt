@@ -1,9 +1,16 @@
-//! Compositions of relations over the copies of a method's variables, and what is left of some copies.
+//! Compositions of relations over the copies of a method's variables, what is left of some copies, and
+//! steps: what an end of an instruction makes of a set of facts, in one pass over its diagram.
 #![tactic(auto)]
 
 mod compose;
 mod law;
+mod memo;
+mod pass;
+mod rule;
 
-pub use compose::{after, project};
+pub use compose::{after, looks_in, project};
 pub use ja_bdd::Copies;
-pub use law::law_composed;
+pub use law::{law_composed, law_step};
+pub use memo::Memo;
+pub use pass::step;
+pub use rule::{Masks, Move, Rule, States};

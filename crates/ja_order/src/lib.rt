@@ -1,4 +1,5 @@
-//! The order of a method's variables in decision diagrams: a place for each slot of its frame.
+//! The order of a method's variables in decision diagrams: a place for each slot of its frame; and how many
+//! values operations pop and push.
 #![tactic(auto)]
 
 mod chains;
@@ -18,3 +19,4 @@ mod walk;
 pub use law::law_calls_keep_order;
 pub use make::{order_of, orders_of};
 pub use order::{Order, Orders};
+pub use stacked::{arguments, pops, pushes};

@@ -20,7 +20,7 @@ impl Stacked {
 }
 
 /// How many values a call pops: its receiver and its arguments.
-fn arguments(call: &CallOp) -> u64
+pub fn arguments(call: &CallOp) -> u64
     ensures { result ≡ operations.arguments call.now }
 {
     let params = call.params.as_slice().len() as u64;

@@ -5,7 +5,7 @@ use ja_lib::Table;
 use ja_lower::LowerFault;
 use std::alloc::Global;
 use std::thread::Threads;
-use tool_parts::{ClassFolder, text_of_refusal, text_of};
+use tool_parts::{ClassFolder, text_of, text_of_refusal};
 
 /// What comes of files as one folder.
 #[derive(Drop)]

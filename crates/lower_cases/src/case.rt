@@ -5,7 +5,7 @@ use ja_lib::{Table, TableFault, default_table, read_table};
 use ja_lower::LowerFault;
 use std::alloc::{AllocError, Global};
 use std::thread::Threads;
-use tool_parts::{ClassFolder, ListingFault, class_files, text_of_refusal, text_of};
+use tool_parts::{ClassFolder, ListingFault, class_files, text_of, text_of_refusal};
 
 /// More methods than there are: so all are one piece, for one thread.
 const ONE_PIECE: usize = usize::MAX;

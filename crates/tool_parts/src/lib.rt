@@ -11,4 +11,4 @@ mod program_text;
 pub use class_folder::ClassFolder;
 pub use files::{files_in, folders_in, words_of};
 pub use listing_files::{ListingFault, class_files};
-pub use program_text::{text_of_refusal, text_of};
+pub use program_text::{text_of, text_of_refusal};

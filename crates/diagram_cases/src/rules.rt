@@ -1,0 +1,127 @@
+//! Rules of a frame of three slots.
+ghost use Rattle.std.specs.Prelude.{◌≡◌, ◌≤◌, ◌<◌};
+
+use ja_base::Memory;
+use ja_join::{Masks, Move, Rule, States};
+use std::alloc::Global;
+
+/// How many slots the frame has.
+pub const SLOTS: u32 = 3;
+
+/// All of these states go on as they are.
+fn go(states: u32) -> Masks {
+    Masks {
+        waiting: states,
+        seen: states,
+        sees: 0,
+    }
+}
+
+/// A slot that is kept, and tells which states go on: some where it is false, others where it is true.
+fn told(place: u32, low: u32, high: u32) -> Move {
+    Move {
+        place,
+        low_low: go(low),
+        low_high: go(0),
+        high_low: go(0),
+        high_high: go(high),
+    }
+}
+
+/// A slot that is overwritten: with false where some states go on, with true where others do.
+fn written(place: u32, low: u32, high: u32) -> Move {
+    Move {
+        place,
+        low_low: go(low),
+        low_high: go(high),
+        high_low: go(low),
+        high_high: go(high),
+    }
+}
+
+/// A slot that is kept, one of several: state 0 waits for a true one among them, state 1 goes on where
+/// none is true.
+fn one_of(place: u32) -> Move {
+    Move {
+        place,
+        low_low: go(3),
+        low_high: go(0),
+        high_low: go(0),
+        high_high: Masks {
+            waiting: 0,
+            seen: 1,
+            sees: 1,
+        },
+    }
+}
+
+/// Adds a move behind the others.
+fn add(rule: &mut Rule, step: Move) -> Result<(), Memory> {
+    let behind = rule.moves.iter().all(|before| before.place < step.place);
+    if step.place >= rule.size || !behind {
+        return Err(Memory);
+    }
+    rule.push(step)
+}
+
+/// The rule of some moves, with two states, the first of which may wait.
+fn rule_of(alloc: Global, waits: bool, moves: &[Move]) -> Result<Rule, Memory> {
+    let start = if waits {
+        States {
+            waiting: 1,
+            seen: 2,
+        }
+    } else {
+        States {
+            waiting: 0,
+            seen: 3,
+        }
+    };
+    let accepted = States {
+        waiting: 0,
+        seen: 3,
+    };
+    let mut rule = Rule::new(alloc, SLOTS, start, accepted);
+    for step in moves {
+        add(&mut rule, *step)?;
+    }
+    Ok(rule)
+}
+
+/// Slot 1 becomes what slot 0 is.
+pub fn copy(alloc: Global) -> Result<Rule, Memory> {
+    rule_of(alloc, false, &[told(0, 1, 2), written(1, 1, 2)])
+}
+
+/// Slot 2 becomes true where slot 0 or slot 1 is, else false.
+pub fn mix(alloc: Global) -> Result<Rule, Memory> {
+    rule_of(alloc, true, &[one_of(0), one_of(1), written(2, 2, 1)])
+}
+
+/// Slot 0 becomes true where slot 1 or slot 2 is, else false: what it becomes is told before they are.
+pub fn mix_before(alloc: Global) -> Result<Rule, Memory> {
+    rule_of(alloc, true, &[written(0, 2, 1), one_of(1), one_of(2)])
+}
+
+/// Slot 1 becomes anything.
+pub fn guess(alloc: Global) -> Result<Rule, Memory> {
+    rule_of(alloc, false, &[written(1, 1, 1)])
+}
+
+/// Slot 2 stays, where it is true and slot 1 becomes false; nothing else is allowed.
+pub fn narrow(alloc: Global) -> Result<Rule, Memory> {
+    rule_of(alloc, false, &[written(1, 1, 0), told(2, 0, 1)])
+}
+
+/// Nothing is allowed.
+pub fn none(alloc: Global) -> Rule {
+    let states = States {
+        waiting: 1,
+        seen: 0,
+    };
+    let accepted = States {
+        waiting: 0,
+        seen: 1,
+    };
+    Rule::new(alloc, SLOTS, states, accepted)
+}

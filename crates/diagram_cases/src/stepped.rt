@@ -1,0 +1,250 @@
+//! What rules make of relations of three slots, between the entry and the present.
+ghost use Rattle.std.specs.Prelude.{◌≡◌, ◌<◌, OnOk};
+ghost use Rattle.std.specs.List.{All};
+ghost use Rattle.ja_node_core.specs.Node.{Knows};
+ghost use Rattle.ja_bdd.specs.Workers.{IsWorkerOf, seen};
+
+use crate::pool::{Pool, Step};
+use crate::rules::{copy, guess, mix, mix_before, narrow, none};
+use ja_base::Memory;
+use ja_bdd::Copies;
+use ja_join::{Memo, Rule};
+use ja_node_core::AnyAim;
+use ja_node_table::NodeTable;
+use std::alloc::Global;
+
+/// The copy at the entry, and that at present.
+const ENTRY: Copies = Copies {
+    at_entry: true,
+    at_present: false,
+    at_next: false,
+    at_callee: false,
+};
+
+const PRESENT: Copies = Copies {
+    at_entry: false,
+    at_present: true,
+    at_next: false,
+    at_callee: false,
+};
+
+/// The relation that two variables have one value.
+fn same(pool: &mut Pool, table: &NodeTable<AnyAim>, one: u32, other: u32) -> Result<usize, Memory>
+    requires { IsWorkerOf table.now pool.old.worker × All (λ n. Knows (seen pool.old.worker) n.number) pool.old.nodes.items }
+    ensures { OnOk result (IsWorkerOf table.now pool.new.worker × All (λ n. Knows (seen pool.new.worker) n.number) pool.new.nodes.items) }
+{
+    let x = pool.step(table, Step::Literal(one, true), 0, 0)?;
+    let y = pool.step(table, Step::Literal(other, true), 0, 0)?;
+    let not_x = pool.step(table, Step::Literal(one, false), 0, 0)?;
+    let not_y = pool.step(table, Step::Literal(other, false), 0, 0)?;
+    let both = pool.step(table, Step::And, x, y)?;
+    let neither = pool.step(table, Step::And, not_x, not_y)?;
+    pool.step(table, Step::Or, both, neither)
+}
+
+/// The relation that three variables have the values of three others.
+fn kept(
+    pool: &mut Pool,
+    table: &NodeTable<AnyAim>,
+    ones: [u32; 3],
+    others: [u32; 3],
+) -> Result<usize, Memory>
+    requires { IsWorkerOf table.now pool.old.worker × All (λ n. Knows (seen pool.old.worker) n.number) pool.old.nodes.items }
+    ensures { OnOk result (IsWorkerOf table.now pool.new.worker × All (λ n. Knows (seen pool.new.worker) n.number) pool.new.nodes.items) }
+{
+    let first = same(pool, table, ones[0], others[0])?;
+    let second = same(pool, table, ones[1], others[1])?;
+    let third = same(pool, table, ones[2], others[2])?;
+    let two = pool.step(table, Step::And, first, second)?;
+    pool.step(table, Step::And, two, third)
+}
+
+/// The relation of a present and the next, in which slot 2 becomes true where slot 0 or slot 1 is.
+fn mixed(pool: &mut Pool, table: &NodeTable<AnyAim>) -> Result<usize, Memory>
+    requires { IsWorkerOf table.now pool.old.worker × All (λ n. Knows (seen pool.old.worker) n.number) pool.old.nodes.items }
+    ensures { OnOk result (IsWorkerOf table.now pool.new.worker × All (λ n. Knows (seen pool.new.worker) n.number) pool.new.nodes.items) }
+{
+    let first = pool.step(table, Step::Literal(1, true), 0, 0)?;
+    let second = pool.step(table, Step::Literal(5, true), 0, 0)?;
+    let some = pool.step(table, Step::Or, first, second)?;
+    let becomes = pool.step(table, Step::Literal(10, true), 0, 0)?;
+    let tainted = pool.step(table, Step::And, becomes, some)?;
+    let not_first = pool.step(table, Step::Literal(1, false), 0, 0)?;
+    let not_second = pool.step(table, Step::Literal(5, false), 0, 0)?;
+    let none = pool.step(table, Step::And, not_first, not_second)?;
+    let stays_out = pool.step(table, Step::Literal(10, false), 0, 0)?;
+    let clean = pool.step(table, Step::And, stays_out, none)?;
+    let third = pool.step(table, Step::Or, tainted, clean)?;
+    let others = kept(pool, table, [2, 6, 6], [1, 5, 5])?;
+    pool.step(table, Step::And, others, third)
+}
+
+/// The values of three slots, whose bits are apart by one, as bits of variables of one copy.
+fn spread(values: usize) -> usize {
+    values & 1 | (values & 2) << 3 | (values & 4) << 6
+}
+
+/// Adds the values of three slots.
+fn add_values(out: &mut String, values: usize) -> Result<(), Memory> {
+    Ok(write!(out, "{}{}{}", values & 1, values >> 1 & 1, values >> 2 & 1)?)
+}
+
+/// Adds which presents a relation has for an entry.
+fn add_presents(
+    out: &mut String,
+    pool: &mut Pool,
+    table: &NodeTable<AnyAim>,
+    r: usize,
+    entry: usize,
+) -> Result<(), Memory>
+    requires { IsWorkerOf table.now pool.old.worker × All (λ n. Knows (seen pool.old.worker) n.number) pool.old.nodes.items }
+    ensures { OnOk result (IsWorkerOf table.now pool.new.worker × All (λ n. Knows (seen pool.new.worker) n.number) pool.new.nodes.items) }
+{
+    for present in 0..8 {
+        let holds = pool.value(table, r, spread(entry) | spread(present) << 1)?;
+        if holds {
+            out.push(' ')?;
+            add_values(out, entry)?;
+            out.push('>')?;
+            add_values(out, present)?;
+        }
+    }
+    Ok(())
+}
+
+/// Adds a relation.
+fn add_relation(
+    out: &mut String,
+    pool: &mut Pool,
+    table: &NodeTable<AnyAim>,
+    name: &str,
+    r: usize,
+) -> Result<(), Memory>
+    requires { IsWorkerOf table.now pool.old.worker × All (λ n. Knows (seen pool.old.worker) n.number) pool.old.nodes.items }
+    ensures { OnOk result (IsWorkerOf table.now pool.new.worker × All (λ n. Knows (seen pool.new.worker) n.number) pool.new.nodes.items) }
+{
+    write!(out, "{name}:")?;
+    for entry in 0..8 {
+        add_presents(out, pool, table, r, entry)?;
+    }
+    Ok(out.push('\n')?)
+}
+
+/// Adds what a rule makes of a relation, and answers its place.
+fn add_step(
+    out: &mut String,
+    pool: &mut Pool,
+    table: &NodeTable<AnyAim>,
+    memo: &mut Memo,
+    name: &str,
+    rule: &Rule,
+    r: usize,
+) -> Result<usize, Memory>
+    requires { IsWorkerOf table.now pool.old.worker × All (λ n. Knows (seen pool.old.worker) n.number) pool.old.nodes.items }
+    ensures { OnOk result (IsWorkerOf table.now pool.new.worker × All (λ n. Knows (seen pool.new.worker) n.number) pool.new.nodes.items) }
+{
+    let made = pool.stepped(table, memo, rule, r)?;
+    add_relation(out, pool, table, name, made)?;
+    Ok(made)
+}
+
+/// Adds what each rule makes of the relation that keeps all slots.
+fn add_rules(out: &mut String, alloc: Global) -> Result<(), Memory> {
+    let (table, seat) = NodeTable::new(alloc, 65536, AnyAim)?;
+    let mut pool = Pool::new(alloc, &table, seat)?;
+    let mut memo = Memo::new(alloc, 1024)?;
+    let start = kept(&mut pool, &table, [1, 5, 9], [0, 4, 8])?;
+    let rule = copy(alloc)?;
+    add_step(out, &mut pool, &table, &mut memo, "copy", &rule, start)?;
+    let rule = mix(alloc)?;
+    add_step(out, &mut pool, &table, &mut memo, "mix", &rule, start)?;
+    let rule = mix_before(alloc)?;
+    add_step(
+        out,
+        &mut pool,
+        &table,
+        &mut memo,
+        "mix before",
+        &rule,
+        start,
+    )?;
+    let rule = guess(alloc)?;
+    add_step(out, &mut pool, &table, &mut memo, "guess", &rule, start)?;
+    let rule = narrow(alloc)?;
+    add_step(out, &mut pool, &table, &mut memo, "narrow", &rule, start)?;
+    let rule = none(alloc);
+    add_step(out, &mut pool, &table, &mut memo, "none", &rule, start)?;
+    Ok(())
+}
+
+/// Adds what three rules make one after the other, with a memo of one entry.
+fn add_chain(out: &mut String, alloc: Global) -> Result<(), Memory> {
+    let (table, seat) = NodeTable::new(alloc, 65536, AnyAim)?;
+    let mut pool = Pool::new(alloc, &table, seat)?;
+    let mut memo = Memo::new(alloc, 1)?;
+    let start = kept(&mut pool, &table, [1, 5, 9], [0, 4, 8])?;
+    let first = pool.stepped(&table, &mut memo, &guess(alloc)?, start)?;
+    let second = pool.stepped(&table, &mut memo, &copy(alloc)?, first)?;
+    let rule = mix(alloc)?;
+    add_step(
+        out,
+        &mut pool,
+        &table,
+        &mut memo,
+        "guess, copy and mix",
+        &rule,
+        second,
+    )?;
+    Ok(())
+}
+
+/// Adds whether steps are what compositions with the relations of their rules are, one of them where
+/// slot 1 is true and slot 2 was false at the entry.
+fn add_composed(out: &mut String, alloc: Global) -> Result<(), Memory> {
+    let (table, seat) = NodeTable::new(alloc, 65536, AnyAim)?;
+    let mut pool = Pool::new(alloc, &table, seat)?;
+    let mut memo = Memo::new(alloc, 1024)?;
+    let start = kept(&mut pool, &table, [1, 5, 9], [0, 4, 8])?;
+    let copied = kept(&mut pool, &table, [2, 6, 10], [1, 1, 9])?;
+    let composed = pool.step(&table, Step::After, start, copied)?;
+    let stepped = pool.stepped(&table, &mut memo, &copy(alloc)?, start)?;
+    let copies = pool.number(composed) == pool.number(stepped);
+    let present = pool.step(&table, Step::Literal(5, true), 0, 0)?;
+    let entry = pool.step(&table, Step::Literal(8, false), 0, 0)?;
+    let some = pool.step(&table, Step::And, present, entry)?;
+    let mixed = mixed(&mut pool, &table)?;
+    let composed = pool.step(&table, Step::After, some, mixed)?;
+    let rule = mix(alloc)?;
+    let stepped = add_step(out, &mut pool, &table, &mut memo, "mix some", &rule, some)?;
+    let mixes = pool.number(composed) == pool.number(stepped);
+    Ok(writeln!(out, "steps are compositions: copy {copies} mix {mixes}")?)
+}
+
+/// Adds what is left of the entry where a copied slot is true, and of the present where one is guessed.
+fn add_projected(out: &mut String, alloc: Global) -> Result<(), Memory> {
+    let (table, seat) = NodeTable::new(alloc, 65536, AnyAim)?;
+    let mut pool = Pool::new(alloc, &table, seat)?;
+    let mut memo = Memo::new(alloc, 1024)?;
+    let start = kept(&mut pool, &table, [1, 5, 9], [0, 4, 8])?;
+    let copied = pool.stepped(&table, &mut memo, &copy(alloc)?, start)?;
+    let present = pool.step(&table, Step::Literal(5, true), 0, 0)?;
+    let tainted = pool.step(&table, Step::And, copied, present)?;
+    let left = pool.step(&table, Step::Project(ENTRY), tainted, 0)?;
+    let source = pool.step(&table, Step::Literal(0, true), 0, 0)?;
+    let from_source = pool.number(left) == pool.number(source);
+    let guessed = pool.stepped(&table, &mut memo, &guess(alloc)?, start)?;
+    let left = pool.step(&table, Step::Project(PRESENT), guessed, 0)?;
+    let anything = pool.number(left) == Some(1);
+    Ok(writeln!(
+        out,
+        "a copied slot is true where its source was {from_source}, any present is guessed {anything}"
+    )?)
+}
+
+/// Adds what rules make of relations.
+pub fn add_steps(out: &mut String, alloc: Global) -> Result<(), Memory> {
+    add_rules(out, alloc)?;
+    add_chain(out, alloc)?;
+    add_composed(out, alloc)?;
+    add_projected(out, alloc)
+}

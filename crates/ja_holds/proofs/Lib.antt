@@ -1,0 +1,6 @@
+mod Basics
+mod Declaring
+mod Owning
+mod Searching
+mod Covering
+mod Exact

@@ -1,0 +1,4 @@
+pub mod Sized
+pub mod Inner
+pub mod Searches
+pub mod Covers

@@ -1,0 +1,12 @@
+pub mod Places
+pub mod Lengths
+pub mod Classes
+pub mod Tables
+pub mod Ordered
+pub mod Unread
+pub mod Sizes
+pub mod Steps
+pub mod MoreFiles
+pub mod OneByOne
+pub mod Conclusions
+pub mod Whole
