@@ -1,5 +1,5 @@
 -- The descriptors of made methods are descriptors.
-use Rattle.std.proofs.Common.{◌≡◌, ℕ, ◌<◌, inl, inr, List, [], ◌∷◌, Some, None, codes, refl, arith, lit<, lit≤}
+use Rattle.std.proofs.Common.{ℕ, ◌<◌, inl, inr, [], ◌∷◌, Some, None, codes, refl, arith, lit<, lit≤}
 use Rattle.ja_base.specs.declared.java_type.JavaType.{JavaType}
 use Rattle.ja_base.specs.declared.java_type.Kind.TheVariants.{R}
 use Rattle.ja_base.specs.Descriptor.{IsPartByte, IsClassName, IsField}

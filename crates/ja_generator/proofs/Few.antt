@@ -1,12 +1,12 @@
 -- A class of few items brings few entries and few bytes of code.
-use Rattle.std.proofs.Common.{◌≡◌, ℕ, zero, suc, ◌+◌, ◌<◌, ◌≤◌, ◌⊎◌, inl, inr, Bool, true, false, cond, ◌&&◌, List, [], ◌∷◌, ◌++◌, length, take, fold, nat_le, bytes_eq, refl, sym, subst, ◌∙◌, ap, arith, leb-true, eq-or-lt_of_le, length-append, take_all, if◌then◌else◌}
+use Rattle.std.proofs.Common.{◌≡◌, ℕ, zero, suc, ◌+◌, ◌≤◌, inl, inr, Bool, true, false, ◌&&◌, List, [], ◌∷◌, ◌++◌, length, take, fold, nat_le, bytes_eq, refl, sym, subst, ◌∙◌, arith, leb-true, eq-or-lt_of_le, length-append, take_all, if◌then◌else◌}
 use Rattle.std.specs.List.{list_any}
 use Rattle.std.proofs.lemmas.Bool.{and_parts, cases_lt}
 use Rattle.ja_listing.specs.declared.item.Head.{Head}
 use Rattle.ja_listing.specs.declared.item.Item.{Item}
 use Rattle.ja_listing.specs.Listed.{Listed}
 use Rattle.ja_assembly.specs.Members.{fields, methods, code_size}
-use Rattle.ja_assembly.specs.Wanted.{with_one, different, same_key, keys_of, strings_of, pool_strings, pool_keys, entries}
+use Rattle.ja_assembly.specs.Wanted.{with_one, different, same_key, keys_of, strings_of}
 use Rattle.ja_assembly.specs.Unwritable.{IsTooMuch, expansion, before, last_of, body_ranges, body_instructions}
 
 -- the different ones are no more than all

@@ -1,11 +1,11 @@
 -- Items and files that are put one behind the other.
-use Rattle.std.proofs.Common.{◌≡◌, ℕ, suc, ◌+◌, List, [], ◌∷◌, ◌++◌, sym, ap, ap₂, subst, ◌∙◌, append_assoc, add-one}
+use Rattle.std.proofs.Common.{◌≡◌, ℕ, ◌+◌, List, [], ◌∷◌, ◌++◌, ap, ap₂, ◌∙◌, append_assoc, add-one}
 use Rattle.ja_base.specs.declared.file.File.{File}
 use Rattle.ja_class.specs.ClassFile.{spelling}
 use Rattle.ja_listing.specs.declared.item.Item.{Item}
 use Rattle.ja_listing.specs.Listed.{Listed}
 use Rattle.ja_assembly.specs.Assembled.{file_of}
-use Rattle.ja_generator.specs.Drawn.{drawn_after, drawn, number_of, file_name}
+use Rattle.ja_generator.specs.Drawn.{drawn_after, drawn, file_name}
 use Rattle.ja_generator.specs.Made.{class_by, file_by, made_files}
 
 module _ (o : List Item) where

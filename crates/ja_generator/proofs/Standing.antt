@@ -1,9 +1,9 @@
 -- Items that can be written wherever they may stand, and where they may stand.
-use Rattle.std.proofs.Common.{◌≡◌, ℕ, zero, suc, ◌+◌, inl, inr, Bool, true, false, ◌&&◌, List, [], ◌∷◌, slice_get, Option, Some, None, refl, sym, subst, ◌∙◌, arith, true≢false, lit≤}
+use Rattle.std.proofs.Common.{◌≡◌, ℕ, zero, suc, ◌+◌, inl, inr, Bool, true, false, ◌&&◌, List, [], ◌∷◌, slice_get, Option, Some, sym, subst, ◌∙◌, arith, true≢false}
 use Rattle.std.specs.List.{AllByRecursion}
 use Rattle.std.proofs.lemmas.Bool.{and_parts, false≢true}
 use Rattle.std.proofs.lemmas.Option.{none-some, same_Some}
-use Rattle.ja_code.specs.Number.{invokestatic, ldc}
+use Rattle.ja_code.specs.Number.{ldc}
 use Rattle.ja_code.specs.declared.form.Form.TheVariants.{Plain}
 use Rattle.ja_code.specs.Opcode.{form_at, is_refused}
 use Rattle.ja_bytes.specs.DescriptorText.{IsMethodText}

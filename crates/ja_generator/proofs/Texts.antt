@@ -1,6 +1,6 @@
 -- Texts of ASCII can be written.
-use Rattle.std.proofs.Common.{◌≡◌, ℕ, ◌+◌, ◌%◌, ◌<◌, ◌≤◌, inl, inr, Bool, true, ◌&&◌, List, [], ◌∷◌, length, refl, ap, arith, nat_le, nat_lt, leb-true, ltb-true, mod-lt, lit≤}
-use Rattle.std.specs.List.{AllByRecursion, list_all}
+use Rattle.std.proofs.Common.{◌≡◌, ℕ, ◌%◌, ◌<◌, ◌≤◌, inl, inr, Bool, true, ◌&&◌, List, [], ◌∷◌, length, refl, ap, arith, nat_le, nat_lt, leb-true, ltb-true, lit≤}
+use Rattle.std.specs.List.{AllByRecursion}
 use Rattle.std.proofs.lemmas.Bool.{and_parts}
 use Rattle.ja_bytes.specs.Text.{IsModifiedUtf8}
 use Rattle.ja_assembly.specs.Unwritable.{IsNoText}

@@ -1,16 +1,16 @@
 -- Each item of a made class can be written.
-use Rattle.std.proofs.Common.{◌≡◌, ℕ, zero, suc, ◌/◌, ◌%◌, ◌⊎◌, inl, inr, Bool, true, false, cond, List, [], ◌∷◌, ◌++◌, length, codes, eqb, slice_get, Some, refl, sym, subst, zero-add, arith, true≢false, lit≤, if◌then◌else◌}
+use Rattle.std.proofs.Common.{◌≡◌, ℕ, zero, suc, ◌/◌, ◌%◌, ◌⊎◌, inl, inr, Bool, true, false, List, ◌∷◌, ◌++◌, length, codes, eqb, slice_get, Some, refl, sym, subst, zero-add, arith, true≢false, lit≤, if◌then◌else◌}
 use Rattle.std.specs.List.{AllByRecursion}
 use Rattle.ja_code.specs.Number.{aload_0, areturn, return}
 use Rattle.ja_code.specs.Opcode.{form_at}
 use Rattle.ja_listing.specs.declared.item.MemberName.{MemberName}
-use Rattle.ja_listing.specs.declared.item.Operand.TheVariants.{Nothing, Quotation}
+use Rattle.ja_listing.specs.declared.item.Operand.TheVariants.{Nothing}
 use Rattle.ja_listing.specs.declared.item.Item.{Item}
 use Rattle.ja_listing.specs.Listed.{Listed}
 use Rattle.ja_assembly.specs.Members.{plain_number, instruction}
 use Rattle.ja_assembly.specs.Unwritable.{IsNoHead, IsNoItem, IsTooMuch, before, head, item, too_much, IsWritable, CannotBeWritten}
 use Rattle.ja_generator.specs.Drawn.{class_name}
-use Rattle.ja_generator.specs.Made.{text_to_text, f_of, of_taint, call, static_method, argument_itself, passed_to, from_source, passed_to_earlier, body_by, main_of, class_by}
+use Rattle.ja_generator.specs.Made.{text_to_text, f_of, of_taint, static_method, argument_itself, passed_to, from_source, passed_to_earlier, main_of, class_by}
 use Rattle.ja_generator.proofs.Texts.{literal, class_name-text}
 use Rattle.ja_generator.proofs.Descriptors.{text_to_text-method, to_text-method, of_text-method, of_texts-method}
 use Rattle.ja_generator.proofs.Standing.{IsGood, IsGoodMember, static_method-good, plain-good, call-good, quotation-good, all_stand, good_at}

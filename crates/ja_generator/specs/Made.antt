@@ -4,7 +4,6 @@ use Rattle.ja_base.specs.declared.file.File.{File}
 use Rattle.ja_code.specs.Number.{aload_0, return, areturn, invokestatic, ldc}
 use Rattle.ja_class.specs.ClassFile.{spelling}
 use Rattle.ja_listing.specs.declared.item.MemberName.{MemberName}
-use Rattle.ja_listing.specs.declared.item.Head.{Head}
 use Rattle.ja_listing.specs.declared.item.Item.{Item}
 use Rattle.ja_listing.specs.declared.item.Item.TheVariants.{Method}
 use Rattle.ja_listing.specs.declared.item.Operand.TheVariants.{Nothing, Quotation, MethodName}
