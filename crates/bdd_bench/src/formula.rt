@@ -49,7 +49,11 @@ fn with_pair(
     let (before, after) = truths;
     let present = 4 * place + 1;
     let first = if before { is(present) } else { is_not(present) };
-    let second = if after { is(present + 1) } else { is_not(present + 1) };
+    let second = if after {
+        is(present + 1)
+    } else {
+        is_not(present + 1)
+    };
     let pair = pool.step(table, Step::And, first, second)?;
     let part = pool.step(table, Step::And, pair, rest)?;
     pool.step(table, Step::Or, made, part)
@@ -98,10 +102,46 @@ fn moved(
         return Err(Failure::NoSuchNode);
     }
     let place = step.place;
-    let made = with_masks(pool, table, place, (false, false), step.low_low, rests, state, FALSE)?;
-    let made = with_masks(pool, table, place, (false, true), step.low_high, rests, state, made)?;
-    let made = with_masks(pool, table, place, (true, false), step.high_low, rests, state, made)?;
-    with_masks(pool, table, place, (true, true), step.high_high, rests, state, made)
+    let made = with_masks(
+        pool,
+        table,
+        place,
+        (false, false),
+        step.low_low,
+        rests,
+        state,
+        FALSE,
+    )?;
+    let made = with_masks(
+        pool,
+        table,
+        place,
+        (false, true),
+        step.low_high,
+        rests,
+        state,
+        made,
+    )?;
+    let made = with_masks(
+        pool,
+        table,
+        place,
+        (true, false),
+        step.high_low,
+        rests,
+        state,
+        made,
+    )?;
+    with_masks(
+        pool,
+        table,
+        place,
+        (true, true),
+        step.high_high,
+        rests,
+        state,
+        made,
+    )
 }
 
 /// What is allowed from one state at a place, with a move or without.
@@ -158,17 +198,19 @@ fn constant(value: bool) -> usize {
 fn ends(rule: &Rule) -> Tails {
     let accepted = rule.accepted;
     Tails {
-        waiting: [constant(accepted.waiting & 1 != 0), constant(accepted.waiting & 2 != 0)],
-        seen: [constant(accepted.seen & 1 != 0), constant(accepted.seen & 2 != 0)],
+        waiting: [
+            constant(accepted.waiting & 1 != 0),
+            constant(accepted.waiting & 2 != 0),
+        ],
+        seen: [
+            constant(accepted.seen & 1 != 0),
+            constant(accepted.seen & 2 != 0),
+        ],
     }
 }
 
 /// The relation of present and next that a rule of two states allows.
-pub fn formula(
-    pool: &mut Pool,
-    table: &NodeTable<AnyAim>,
-    rule: &Rule,
-) -> Result<usize, Failure>
+pub fn formula(pool: &mut Pool, table: &NodeTable<AnyAim>, rule: &Rule) -> Result<usize, Failure>
     requires { IsReady table.now pool.old }
     ensures { OnOk result (IsReady table.now pool.new) }
 {

@@ -126,12 +126,20 @@ fn measure<R: Clock>(
         Work::Taint => taint(&mut pool, &table, asked.rounds)?,
         Work::Calls => calls(&mut pool, &table, asked.forgetting, asked.rounds)?,
         Work::Steps(instruction) => {
-            return steps(rt, alloc, &mut pool, &table, asked.way, instruction, asked.rounds);
+            return steps(
+                rt,
+                alloc,
+                &mut pool,
+                &table,
+                asked.way,
+                instruction,
+                asked.rounds,
+            );
         }
-        Work::Same(instruction) => same(alloc, &mut pool, &table, instruction)?,
+        Work::Same(instruction) => same(rt, alloc, &mut pool, &table, instruction)?,
         Work::Texts => {
             let count = asked.rounds.min(30) as u32;
-            texts(alloc, &mut pool, &table, count, asked.apart)?
+            texts(rt, alloc, &mut pool, &table, count, asked.apart)?
         }
     };
     Ok((answer, start.elapsed(rt)?))

@@ -11,6 +11,8 @@ use ja_join::{Memo, Rule, step};
 use ja_node_core::AnyAim;
 use ja_node_table::{Node, NodeSeat, NodeTable};
 use std::alloc::Global;
+use std::rt::Clock;
+use std::time::{Duration, Instant};
 
 /// How many slots the relations have, each of four copies.
 pub const SLOTS: u32 = 64;
@@ -39,8 +41,6 @@ pub enum Step {
     Exists(u32),
     ExistsAll(Copies),
     AndExists(Copies),
-    /// The first relation and then the second.
-    After,
 }
 
 /// Makes one operation, of a worker that knows both nodes.
@@ -63,7 +63,6 @@ pub fn ask(
         Step::Exists(var) => worker.exists(table, f, var).ok(),
         Step::ExistsAll(copies) => worker.exists_all(table, f, copies).ok(),
         Step::AndExists(copies) => worker.and_exists(table, f, g, copies).ok(),
-        Step::After => composed(table, worker, f, g),
     }
 }
 
@@ -186,22 +185,43 @@ impl Pool {
         Ok(self.nodes.len() - 1)
     }
 
-    /// What a rule makes of a node, by its place.
-    pub fn stepped(
+    /// What a rule makes of a node, by its place. Answers also how long that took.
+    pub fn stepped<R: Clock>(
         &mut self,
+        rt: &R,
         table: &NodeTable<AnyAim>,
         memo: &mut Memo,
         rule: &Rule,
         r: usize,
-    ) -> Result<usize, Failure>
+    ) -> Result<(usize, Duration), Failure>
         requires { IsReady table.now self.old }
         ensures { OnOk result (IsReady table.now self.new) }
     {
         let r = self.node(r)?;
+        let start = Instant::now(rt)?;
         let Ok(made) = step(&mut self.worker, memo, table, rule, r) else {
             return Err(Failure::NoRoom);
         };
+        let time = start.elapsed(rt)?;
         self.nodes.push(made)?;
-        Ok(self.nodes.len() - 1)
+        Ok((self.nodes.len() - 1, time))
+    }
+
+    /// Composes two relations. Answers the place of what was made, and how long that took.
+    pub fn composed<R: Clock>(
+        &mut self,
+        rt: &R,
+        table: &NodeTable<AnyAim>,
+        f: usize,
+        g: usize,
+    ) -> Result<(usize, Duration), Failure>
+        requires { IsReady table.now self.old }
+        ensures { OnOk result (IsReady table.now self.new) }
+    {
+        let f = self.node(f)?;
+        let g = self.node(g)?;
+        let (made, time) = composed(rt, table, &mut self.worker, f, g)?;
+        self.nodes.push(made)?;
+        Ok((self.nodes.len() - 1, time))
     }
 }

@@ -162,7 +162,13 @@ fn move_at(instruction: Instruction, place: u32) -> Option<Move> {
     match instruction {
         Instruction::Library => library_at(place),
         Instruction::Field => field_at(place),
-        Instruction::Text(to) => { if place == to { Some(written(place, 1, 1)) } else { None } }
+        Instruction::Text(to) => {
+            if place == to {
+                Some(written(place, 1, 1))
+            } else {
+                None
+            }
+        }
         Instruction::Load(from, to) => load_at(from, to, place),
         Instruction::Joined(texts, apart) => joined_at(texts, apart, place),
     }

@@ -12,7 +12,7 @@ use ja_node_core::AnyAim;
 use ja_node_table::NodeTable;
 use std::alloc::Global;
 use std::rt::Clock;
-use std::time::{Duration, Instant};
+use std::time::Duration;
 
 /// How many entries a memo of steps has.
 const MEMO: usize = 1 << 16;
@@ -54,11 +54,7 @@ fn clause(
 }
 
 /// A relation of entry and present over all slots of a frame.
-fn facts(
-    pool: &mut Pool,
-    table: &NodeTable<AnyAim>,
-    random: &mut u64,
-) -> Result<usize, Failure>
+fn facts(pool: &mut Pool, table: &NodeTable<AnyAim>, random: &mut u64) -> Result<usize, Failure>
     requires ready { IsReady table.now pool.old }
     ensures { OnOk result (IsReady table.now pool.new) }
 {
@@ -68,28 +64,6 @@ fn facts(
         made = pool.step(table, Step::And, next, made)?;
     }
     Ok(made)
-}
-
-/// What comes of a relation, and how long that took; the formula is made before.
-fn carried<R: Clock>(
-    rt: &R,
-    pool: &mut Pool,
-    table: &NodeTable<AnyAim>,
-    memo: &mut Memo,
-    way: Way,
-    rule: &Rule,
-    formula: usize,
-    r: usize,
-) -> Result<(usize, Duration), Failure>
-    requires ready { IsReady table.now pool.old }
-    ensures { OnOk result (IsReady table.now pool.new) }
-{
-    let start = Instant::now(rt)?;
-    let made = match way {
-        Way::OnePass => pool.stepped(table, memo, rule, r)?,
-        Way::Composed => pool.step(table, Step::After, r, formula)?,
-    };
-    Ok((made, start.elapsed(rt)?))
 }
 
 /// Carries so many relations over an instruction. Answers how many nodes they have then, one by one, and how
@@ -115,7 +89,10 @@ pub fn steps<R: Clock>(
     let mut took = Duration::ZERO;
     for _round in 0..rounds {
         let r = facts(pool, table, &mut random)?;
-        let (made, time) = carried(rt, pool, table, &mut memo, way, &rule, relation, r)?;
+        let (made, time) = match way {
+            Way::OnePass => pool.stepped(rt, table, &mut memo, &rule, r)?,
+            Way::Composed => pool.composed(rt, table, r, relation)?,
+        };
         took = took.saturating_add(time);
         marks.fill(false);
         nodes = nodes.wrapping_add(count(alloc, pool, table, &mut marks, made)?);
@@ -124,7 +101,8 @@ pub fn steps<R: Clock>(
 }
 
 /// Carries one relation over an instruction both ways. Answers 1 where one node comes of it, else 0.
-pub fn same(
+pub fn same<R: Clock>(
+    rt: &R,
     alloc: Global,
     pool: &mut Pool,
     table: &NodeTable<AnyAim>,
@@ -138,8 +116,8 @@ pub fn same(
     let relation = formula(pool, table, &rule)?;
     let mut random = 1;
     let r = facts(pool, table, &mut random)?;
-    let stepped = pool.stepped(table, &mut memo, &rule, r)?;
-    let composed = pool.step(table, Step::After, r, relation)?;
+    let (stepped, _) = pool.stepped(rt, table, &mut memo, &rule, r)?;
+    let (composed, _) = pool.composed(rt, table, r, relation)?;
     let stepped = pool.node(stepped)?;
     let composed = pool.node(composed)?;
     Ok(u64::from(stepped == composed))
@@ -159,7 +137,8 @@ fn nothing(pool: &mut Pool, table: &NodeTable<AnyAim>) -> Result<usize, Failure>
 }
 
 /// Carries a relation over an instruction, and adds the nodes that come of it to those that are marked.
-fn follow(
+fn follow<R: Clock>(
+    rt: &R,
     alloc: Global,
     pool: &mut Pool,
     table: &NodeTable<AnyAim>,
@@ -173,14 +152,15 @@ fn follow(
 {
     let (r, nodes) = from;
     let rule = rule_of(alloc, instruction)?;
-    let made = pool.stepped(table, memo, &rule, r)?;
+    let (made, _) = pool.stepped(rt, table, memo, &rule, r)?;
     let new = count(alloc, pool, table, marks, made)?;
     Ok((made, nodes.wrapping_add(new)))
 }
 
 /// Reads so many texts into locals, loads them all, and passes them to one call. Answers how many nodes the
 /// relations before and after each instruction have together.
-pub fn texts(
+pub fn texts<R: Clock>(
+    rt: &R,
     alloc: Global,
     pool: &mut Pool,
     table: &NodeTable<AnyAim>,
@@ -197,13 +177,13 @@ pub fn texts(
     let mut at = (start, count(alloc, pool, table, &mut marks, start)?);
     for text in 0..texts {
         let read = Instruction::Text(local(texts, apart, text));
-        at = follow(alloc, pool, table, &mut memo, &mut marks, read, at)?;
+        at = follow(rt, alloc, pool, table, &mut memo, &mut marks, read, at)?;
     }
     for text in 0..texts {
         let load = Instruction::Load(local(texts, apart, text), stacked(texts, apart, text));
-        at = follow(alloc, pool, table, &mut memo, &mut marks, load, at)?;
+        at = follow(rt, alloc, pool, table, &mut memo, &mut marks, load, at)?;
     }
     let call = Instruction::Joined(texts, apart);
-    let (_made, nodes) = follow(alloc, pool, table, &mut memo, &mut marks, call, at)?;
+    let (_made, nodes) = follow(rt, alloc, pool, table, &mut memo, &mut marks, call, at)?;
     Ok(nodes)
 }
