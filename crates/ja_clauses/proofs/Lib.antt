@@ -1,3 +1,3 @@
 pub mod Read
-pub mod Loops
 pub mod Ways
+pub mod Shapes
