@@ -1,5 +1,4 @@
 -- What the code's shapes of types and places of exceptions mean, and what an index of class names keeps.
-use Rattle.std.specs.Prelude.{◌≡◌, ℕ, List, [], ◌∷◌, Option, map}
 use Rattle.ja_ir.specs.Tokens.{Shape, InProgram, Primitives, References, Strings, Objects, Elsewhere}
 use Rattle.ja_ir.specs.Handlers.{Place, Inside, Outside}
 use Rattle.ja_tokens.specs.declared.shape.TypeShape.{TypeShape}

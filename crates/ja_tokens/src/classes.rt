@@ -1,15 +1,33 @@
-ghost use Rattle.std.specs.Prelude.{◌≡◌, ℕ, List, IfOk};
+ghost use Rattle.std.specs.Prelude.{◌≡◌, ℕ, List, Some, None, IfOk, OnOk, bytes_eq, if◌then◌else◌};
+ghost use Rattle.std.specs.HashMap.{get};
 ghost use Rattle.ja_ir.specs.Lookup.{class_named};
 ghost use Rattle.ja_ir.specs.Tokens as tokens;
 ghost use Rattle.ja_ir.specs.declared.program.Parts.{Parts};
 ghost use Rattle.ja_tokens.specs.Shapes.{shape_meant};
-ghost use Rattle.ja_tokens.specs.Numbers.{AreNumbers, number_in};
+ghost use Rattle.ja_tokens.specs.Numbers.{AreNumbers, number_in, or_later};
 
 use crate::shape::{TypeShape, array_shape, class_shape};
 use ja_base::{Memory, Name};
 use ja_ir::Program;
 use std::alloc::Global;
 use std::collections::HashMap;
+
+// Notes a number for a name, unless the name has one already.
+fn note(
+    alloc: Global,
+    numbers: &mut HashMap<Name, u32>,
+    name: &Name,
+    number: u32,
+) -> Result<(), Memory>
+    ensures { OnOk result ((other : List ℕ) → get bytes_eq numbers.new other ≡ or_later (get bytes_eq numbers.old other) (if bytes_eq name.now other then Some number else None)) }
+{
+    if numbers.get(name).is_some() {
+        return Ok(());
+    }
+    let key = name.copy(alloc)?;
+    numbers.insert(key, number)?;
+    Ok(())
+}
 
 /// The numbers of the program classes by their names. A look-up compares no other names than those
 /// that have the same hash.
@@ -25,9 +43,7 @@ impl ClassNumbers {
     {
         let mut numbers = HashMap::new(alloc);
         for (c, class) in p.classes().as_slice().iter().enumerate() {
-            if numbers.get(&class.name).is_none() {
-                numbers.insert(class.name.copy(alloc)?, c as u32)?;
-            }
+            note(alloc, &mut numbers, &class.name, c as u32)?;
         }
         Ok(ClassNumbers { numbers })
     }

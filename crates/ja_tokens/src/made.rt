@@ -33,10 +33,12 @@ fn add_made(p: &Program, shape: TypeShape, made: &mut Seq<u32>) -> Result<(), Me
 fn before_semicolon(bytes: &[u8]) -> &[u8]
     ensures { result.now ≡ tokens.before_semicolon bytes.now }
 {
-    match bytes.iter().position(|byte| *byte == b';') {
-        Some(end) => &bytes[..end],
-        None => bytes,
+    for i in 0..bytes.len() {
+        if bytes[i] == b';' {
+            return &bytes[..i];
+        }
     }
+    bytes
 }
 
 // Adds the tokens of all objects that are made new for an array's element of this descriptor.

@@ -1,7 +1,9 @@
-ghost use Rattle.std.specs.Prelude.{◌≡◌};
+ghost use Rattle.std.specs.Prelude.{◌≡◌, ◌==◌};
+ghost use Rattle.std.specs.List.{list_any};
 ghost use Rattle.ja_ir.specs.Lookup as lookup;
 ghost use Rattle.ja_ir.specs.Tokens as tokens;
 
+use ja_base::ClassId;
 use ja_ir::Program;
 
 /// The token of texts.
@@ -37,9 +39,16 @@ pub fn at_or_below(p: &Program, token: u32, class: u32) -> bool
     ensures { result ≡ lookup.at_or_below p.now token class }
 {
     match p.classes().as_slice().get(token as usize) {
-        Some(info) => info.supers.as_slice().iter().any(|above| above.0 == class),
+        Some(info) => has_class(info.supers.as_slice(), class),
         None => false,
     }
+}
+
+// Whether a class is among the ids.
+fn has_class(ids: &[ClassId], class: u32) -> bool
+    ensures { result ≡ list_any (λ id. id.0 == class) ids.now }
+{
+    ids.iter().any(|id| id.0 == class)
 }
 
 /// Whether objects of the token are absorbing: their bags may take things.
