@@ -1,0 +1,6 @@
+pub mod Links
+pub mod Places
+pub mod Flows
+pub mod Operations
+pub mod Calls
+pub mod LibraryCalls
