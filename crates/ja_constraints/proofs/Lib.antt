@@ -1,1 +1,3 @@
 pub mod More
+pub mod Few
+pub mod Found

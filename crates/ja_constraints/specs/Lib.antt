@@ -4,3 +4,6 @@ pub mod Flows
 pub mod Operations
 pub mod Calls
 pub mod LibraryCalls
+pub mod Starts
+pub mod Events
+pub mod Tokens

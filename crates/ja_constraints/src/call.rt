@@ -156,6 +156,13 @@ pub fn add_targets(
     }
 }
 
+// The first argument that goes to a method with all that are in its cell.
+fn first_handed(kind: CallKind) -> u32
+    ensures { result ≡ calls.first_handed kind }
+{
+    if is_dispatched(kind) { 1 } else { 0 }
+}
+
 // Adds that the arguments of a call go to the parameters of a method.
 fn add_hands(
     told: &mut Constraints,
@@ -168,7 +175,7 @@ fn add_hands(
     requires { operations.arguments call.now < 2 ^ 32 }
     ensures { OnOk result (told.new ≡ told.old ++ calls.hands row.now locals height call.now method) }
 {
-    let first = u32::from(is_dispatched(call.kind));
+    let first = first_handed(call.kind);
     let count = arguments(call) as u32;
     for param in first..count {
         let from = argument_cell(row, locals, height, call, param);

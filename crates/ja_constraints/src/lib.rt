@@ -3,13 +3,16 @@
 
 mod call;
 mod constraint;
+mod event;
 mod flow;
 mod library;
+mod object;
 mod operation;
 mod place;
+mod start;
+mod token;
 
-pub use call::{add_begin, add_passes, add_targets};
 pub use constraint::{Constraint, Constraints};
-pub use flow::{add_begins, add_enters, add_next};
-pub use library::{add_does_there, add_goes_there};
-pub use operation::{add_raises, add_operation};
+pub use event::add_follows;
+pub use start::add_starts;
+pub use token::add_fires;

@@ -86,7 +86,7 @@ fn is_reference(kind: Kind) -> bool
 }
 
 // Whether a result, if there is one, is a reference.
-fn has_reference(type_: &Option<JavaType>) -> bool
+pub fn has_reference(type_: &Option<JavaType>) -> bool
     ensures { result ≡ library.has_reference type_.now }
 {
     match type_ {

@@ -7,4 +7,4 @@ use Rattle.ja_constraints.proofs.call.add_hands.Given as goal
 
 abbrev pub invariant-loop-param : goal.invariant-loop-param
 invariant-loop-param l =
-    l.told ++ over (λ k. copy (argument_cell l.row l.locals l.height l.call k) (Param l.method k)) l.param (l.param-end - l.param) ≡ l.fn.told ++ hands l.row l.locals l.height l.call l.method
+    l.told ++ over (λ k. copy (argument_cell l.row l.locals l.height l.call k) (Param l.method k)) l.param (l.count - l.param) ≡ l.fn.told ++ hands l.row l.locals l.height l.call l.method
