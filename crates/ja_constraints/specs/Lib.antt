@@ -6,4 +6,3 @@ pub mod Calls
 pub mod LibraryCalls
 pub mod Starts
 pub mod Events
-pub mod Tokens

@@ -9,7 +9,7 @@ use crate::constraint::{Constraints, add_link, add_throws_library, add_token};
 use crate::flow::{add_begins, add_enters, add_next};
 use crate::library::{add_does_there, add_goes_there};
 use crate::operation::{add_operation, add_raises};
-use crate::place::{row_at, top_cell};
+use crate::place::{instr_of, method_of, row_at, top_cell};
 use ja_base::Memory;
 use ja_cells::{Names, next_row};
 use ja_ir::{Instr, Method, Program};
@@ -99,8 +99,8 @@ fn add_reached(
 ) -> Result<(), Memory>
     ensures { OnOk result (told.new ≡ told.old ++ events.reached p.now names.now m i) }
 {
-    match p.methods().as_slice().get(m as usize) {
-        Some(method) => match method.code.as_slice().get(i as usize) {
+    match method_of(p, m) {
+        Some(method) => match instr_of(method, i) {
             Some(instr) => add_runs(alloc, told, p, names, m, i, method, instr),
             None => Ok(()),
         },
@@ -119,8 +119,8 @@ fn add_passed(
 ) -> Result<(), Memory>
     ensures { OnOk result (told.new ≡ told.old ++ events.passed p.now names.now m i n) }
 {
-    match p.methods().as_slice().get(m as usize) {
-        Some(method) => match method.code.as_slice().get(i as usize) {
+    match method_of(p, m) {
+        Some(method) => match instr_of(method, i) {
             Some(instr) => add_passes(
                 told,
                 m,
@@ -165,8 +165,8 @@ fn add_done_there(
     requires { AreNumbers p.now classes.now }
     ensures { OnOk result (told.new ≡ told.old ++ events.done_there p.now names.now m i) }
 {
-    match p.methods().as_slice().get(m as usize) {
-        Some(method) => match method.code.as_slice().get(i as usize) {
+    match method_of(p, m) {
+        Some(method) => match instr_of(method, i) {
             Some(instr) => add_does_there(
                 alloc,
                 told,

@@ -1,10 +1,27 @@
-ghost use Rattle.std.specs.Prelude.{◌≡◌, ◌<◌, ◌^◌};
+ghost use Rattle.std.specs.Prelude.{◌≡◌, slice_get};
+ghost use Rattle.std.specs.Option.{option_copied};
 ghost use Rattle.ja_constraints.specs.Places as places;
+ghost use Rattle.ja_ir.specs.Whole.{IsWhole};
 ghost use Rattle.ja_cells.specs.Names.{row_at};
 
 use ja_cells::{Names, arguments, cell_in};
-use ja_ir::CallOp;
+use ja_ir::{CallOp, Instr, Method, Program};
 use ja_network::Cell;
+
+/// The method of a number, if there is one.
+pub fn method_of(p: &Program, m: u32) -> Option<&Method>
+    ensures found { option_copied result ≡ slice_get p.now.methods m }
+    ensures whole { IsWhole p.now }
+{
+    p.methods().as_slice().get(m as usize)
+}
+
+/// The instruction of a method at an index, if there is one.
+pub fn instr_of(method: &Method, i: u32) -> Option<&Instr>
+    ensures { option_copied result ≡ slice_get method.now.code i }
+{
+    method.code.as_slice().get(i as usize)
+}
 
 /// The cells of the slots before an instruction.
 pub fn row_at(names: &Names, m: u32, i: u32) -> &[Cell]

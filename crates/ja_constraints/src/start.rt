@@ -8,6 +8,7 @@ ghost use Rattle.ja_constraints.specs.Starts as starts;
 
 use crate::constraint::{Constraints, add_link, add_reach, add_token};
 use crate::flow::add_begins;
+use crate::place::method_of;
 use ja_base::{JavaType, Kind, Memory, MethodId};
 use ja_ir::{Entry, Field, Method, Program, is_static};
 use ja_network::{Action, Cell};
@@ -177,7 +178,7 @@ fn add_gives_to(
     requires numbers { AreNumbers p.now classes.now }
     ensures { OnOk result (told.new ≡ told.old ++ starts.gives_to p.now entry.now (slice_get p.now.methods entry.now.method.0)) }
 {
-    match p.methods().as_slice().get(entry.method.0 as usize) {
+    match method_of(p, entry.method.0) {
         Some(method) => add_gives_all(alloc, told, p, classes, entry, method),
         None => Ok(()),
     }

@@ -3,9 +3,9 @@ use Rattle.ja_network.specs.declared.cell.Cell.{Cell}
 use Rattle.ja_network.specs.declared.cell.Cell.TheVariants.{Before}
 use Rattle.ja_cells.specs.Rows.{cell_in}
 use Rattle.ja_constraints.specs.Links.{copy}
-use Rattle.ja_constraints.specs.Tokens.{keeps}
+use Rattle.ja_firing.specs.Tokens.{keeps}
 use Rattle.ja_constraints.proofs.More.{over-more}
-use Rattle.ja_constraints.proofs.object.add_keeps.Goals as goal
+use Rattle.ja_firing.proofs.object.add_keeps.Goals as goal
 
 pub loop-slot-preserved : goal.loop-slot-preserved
 loop-slot-preserved c =

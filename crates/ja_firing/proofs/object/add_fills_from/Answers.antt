@@ -3,9 +3,9 @@ use Rattle.ja_network.specs.declared.cell.Cell.{Cell}
 use Rattle.ja_network.specs.declared.cell.Cell.TheVariants.{Bag}
 use Rattle.ja_constraints.specs.Links.{copy}
 use Rattle.ja_constraints.specs.Places.{argument_cell}
-use Rattle.ja_constraints.specs.Tokens.{fills_from}
+use Rattle.ja_firing.specs.Tokens.{fills_from}
 use Rattle.ja_constraints.proofs.More.{over-more}
-use Rattle.ja_constraints.proofs.object.add_fills_from.Goals as goal
+use Rattle.ja_firing.proofs.object.add_fills_from.Goals as goal
 
 pub loop-k-preserved : goal.loop-k-preserved
 loop-k-preserved c =

@@ -5,16 +5,17 @@ ghost use Rattle.ja_ir.specs.Params as params;
 ghost use Rattle.ja_ir.specs.Tokens as shapes;
 ghost use Rattle.ja_tokens.specs.Numbers.{AreNumbers};
 ghost use Rattle.ja_tokens.specs.Shapes.{shape_meant};
-ghost use Rattle.ja_constraints.specs.Tokens as tokens;
+ghost use Rattle.ja_firing.specs.Tokens as tokens;
 
-use crate::call::{add_calls, add_calls_abstract, add_calls_library};
-use crate::constraint::{Constraints, add_token};
-use crate::library::has_reference;
 use crate::object::{
     add_expands, add_filled, add_leads, add_sources, add_stocks, add_takes, add_thrown,
 };
 use ja_base::{JavaType, Memory, Name};
 use ja_cells::Names;
+use ja_constraints::{
+    Constraints, add_calls, add_calls_abstract, add_calls_library, add_token, has_reference,
+    instr_of, method_of,
+};
 use ja_ir::{CallOp, MethodAt, Op, Program, Selection, is_static};
 use ja_network::{Action, Cell};
 use ja_tokens::{ClassNumbers, TypeShape, fits_shape};
@@ -73,8 +74,8 @@ fn add_checked(
     requires { AreNumbers p.now classes.now }
     ensures { OnOk result (told.new ≡ told.old ++ tokens.checked p.now m i token) }
 {
-    match p.methods().as_slice().get(m as usize) {
-        Some(method) => match method.code.as_slice().get(i as usize) {
+    match method_of(p, m) {
+        Some(method) => match instr_of(method, i) {
             Some(instr) => add_passes_cast(told, p, classes, m, i, token, &instr.op),
             None => Ok(()),
         },
@@ -93,7 +94,7 @@ fn add_fits_param(
     type_: Option<&JavaType>,
 ) -> Result<(), Memory>
     requires { AreNumbers p.now classes.now }
-    ensures { OnOk result (told.new ≡ told.old ++ tokens.fits_param p.now method param token (option_copied type_)) }
+    ensures { OnOk result (told.new ≡ told.old ++ tokens.fits_param p.now method param token (option_copied type_.entry)) }
 {
     match type_ {
         Some(type_) => {
@@ -129,7 +130,7 @@ fn add_enters_param(
     requires { AreNumbers p.now classes.now }
     ensures { OnOk result (told.new ≡ told.old ++ tokens.enters_param p.now m k token (slice_get p.now.methods m)) }
 {
-    match p.methods().as_slice().get(m as usize) {
+    match method_of(p, m) {
         Some(method) => {
             let types = method.types.params.as_slice();
             let type_ = type_among(!is_static(method.flags), types, k);
@@ -195,8 +196,8 @@ fn add_answered(
     requires { AreNumbers p.now classes.now }
     ensures { OnOk result (told.new ≡ told.old ++ tokens.answered p.now m i token) }
 {
-    match p.methods().as_slice().get(m as usize) {
-        Some(method) => match method.code.as_slice().get(i as usize) {
+    match method_of(p, m) {
+        Some(method) => match instr_of(method, i) {
             Some(instr) => add_answers(told, p, classes, m, i, token, &instr.op),
             None => Ok(()),
         },
@@ -319,8 +320,8 @@ fn add_received(
     requires { AreNumbers p.now classes.now }
     ensures { OnOk result (told.new ≡ told.old ++ tokens.received p.now m i token) }
 {
-    match p.methods().as_slice().get(m as usize) {
-        Some(method) => match method.code.as_slice().get(i as usize) {
+    match method_of(p, m) {
+        Some(method) => match instr_of(method, i) {
             Some(instr) => add_dispatches(told, p, classes, m, i, token, &instr.op),
             None => Ok(()),
         },

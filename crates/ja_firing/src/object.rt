@@ -3,13 +3,15 @@ ghost use Rattle.ja_ir.specs.Operations as operations;
 ghost use Rattle.ja_ir.specs.Lookup as lookup;
 ghost use Rattle.ja_tokens.specs.Shapes.{place_meant};
 ghost use Rattle.ja_cells.specs.Names.{row_at};
-ghost use Rattle.ja_constraints.specs.Tokens as tokens;
+ghost use Rattle.ja_firing.specs.Tokens as tokens;
 ghost use Rattle.ja_constraints.specs.Places.{HasFew};
 
-use crate::constraint::{Constraint, Constraints, add_copy, add_link, add_reach, add_token};
-use crate::place::{argument_cell, row_at};
 use ja_base::Memory;
 use ja_cells::{Names, arguments, cell_in};
+use ja_constraints::{
+    Constraint, Constraints, add_copy, add_link, add_reach, add_token, argument_cell, instr_of,
+    method_of, row_at,
+};
 use ja_ir::{CallOp, Field, Op, Program, is_static};
 use ja_network::{Action, Cell, Event};
 use ja_tokens::{ThrownTo, absorbs, at_or_below, lib_token, parr_token, rarr_token, thrown_to};
@@ -91,7 +93,7 @@ pub fn add_thrown(
 ) -> Result<(), Memory>
     ensures { OnOk result (told.new ≡ told.old ++ tokens.thrown p.now m i token (row_at names.now m i) (slice_get p.now.methods m)) }
 {
-    match p.methods().as_slice().get(m as usize) {
+    match method_of(p, m) {
         Some(method) => {
             let places = thrown_to(alloc, p, method.handlers.as_slice(), i, token)?;
             let row = row_at(names, m, i);
@@ -202,8 +204,8 @@ pub fn add_filled(
 ) -> Result<(), Memory>
     ensures { OnOk result (told.new ≡ told.old ++ tokens.filled p.now names.now m i token) }
 {
-    match p.methods().as_slice().get(m as usize) {
-        Some(method) => match method.code.as_slice().get(i as usize) {
+    match method_of(p, m) {
+        Some(method) => match instr_of(method, i) {
             Some(instr) => {
                 let row = row_at(names, m, i);
                 add_fills_bag(told, row, method.locals, instr.height, token, &instr.op)

@@ -1,7 +1,7 @@
 use Rattle.std.proofs.Common.{◌≡◌, ◌++◌, map, drop}
 use Rattle.ja_tokens.specs.Shapes.{place_meant}
-use Rattle.ja_constraints.specs.Tokens as tokens
-use Rattle.ja_constraints.proofs.object.add_goes_each.Given as goal
+use Rattle.ja_firing.specs.Tokens as tokens
+use Rattle.ja_firing.proofs.object.add_goes_each.Given as goal
 
 abbrev pub invariant-loop-place : goal.invariant-loop-place
 invariant-loop-place l =

@@ -2,8 +2,8 @@ use Rattle.std.proofs.Common.{◌≡◌, ◌-◌, ◌++◌}
 use Rattle.ja_network.specs.declared.cell.Cell.TheVariants.{Bag}
 use Rattle.ja_constraints.specs.Links.{over, copy}
 use Rattle.ja_constraints.specs.Places.{argument_cell}
-use Rattle.ja_constraints.specs.Tokens.{fills_from}
-use Rattle.ja_constraints.proofs.object.add_fills_from.Given as goal
+use Rattle.ja_firing.specs.Tokens.{fills_from}
+use Rattle.ja_firing.proofs.object.add_fills_from.Given as goal
 
 abbrev pub invariant-loop-k : goal.invariant-loop-k
 invariant-loop-k l =

@@ -2,8 +2,8 @@ use Rattle.std.proofs.Common.{◌≡◌, ◌-◌, ◌++◌}
 use Rattle.ja_network.specs.declared.cell.Cell.TheVariants.{Before}
 use Rattle.ja_cells.specs.Rows.{cell_in}
 use Rattle.ja_constraints.specs.Links.{over, copy}
-use Rattle.ja_constraints.specs.Tokens.{keeps}
-use Rattle.ja_constraints.proofs.object.add_keeps.Given as goal
+use Rattle.ja_firing.specs.Tokens.{keeps}
+use Rattle.ja_firing.proofs.object.add_keeps.Given as goal
 
 abbrev pub invariant-loop-slot : goal.invariant-loop-slot
 invariant-loop-slot l =
