@@ -1,0 +1,10 @@
+pub mod Solving
+pub mod Meaning
+pub mod Reading
+pub mod NextNames
+pub mod NextOps
+pub mod Fired
+pub mod Followed
+pub mod Reached
+pub mod Named
+pub mod Sound
