@@ -17,6 +17,6 @@ mod starts;
 mod walk;
 
 pub use law::law_calls_keep_order;
-pub use make::{order_of, orders_of};
+pub use make::{method_order, order_of, orders_of};
 pub use order::{Order, Orders};
 pub use stacked::{arguments, pops, pushes};

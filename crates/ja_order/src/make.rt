@@ -70,7 +70,7 @@ pub fn order_of(alloc: Global, method: &Method) -> Result<Order, Memory>
 }
 
 /// The places of a method's slots: an order of its variables, and where it has no code the plain one.
-fn method_order(alloc: Global, method: &Method) -> Result<Order, Memory>
+pub fn method_order(alloc: Global, method: &Method) -> Result<Order, Memory>
     requires frame { HasCode method.now → HasFrame method.now }
     requires small { method.now.locals + method.now.stack ≤ max_frame_values }
     ensures { IfOk result (HasOrder method.now) }

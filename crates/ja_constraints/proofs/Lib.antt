@@ -1,3 +1,0 @@
-pub mod More
-pub mod Few
-pub mod Found
