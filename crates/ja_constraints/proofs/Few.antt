@@ -1,7 +1,6 @@
 -- What whole programs have few of: targets and arguments have numbers that fit 32 bits.
-use Rattle.std.proofs.Common.{◌≡◌, ℕ, ◌+◌, ◌<◌, ◌≤◌, ◌^◌, ◌⊎◌, inl, inr, Bool, true, false, List, [], ◌∷◌, Some, length, refl, sym, ap, subst, ◌∙◌, arith}
+use Rattle.std.proofs.Common.{◌≡◌, ℕ, ◌<◌, ◌≤◌, ◌^◌, inl, inr, Bool, true, false, List, [], ◌∷◌, Some, length, ap, subst, arith}
 use Rattle.std.specs.Prelude.{All, slice_get}
-use Rattle.std.specs.List.{sum_by}
 use Rattle.std.proofs.lemmas.List.Sums.{sum_by-cons}
 use Rattle.std.proofs.lemmas.Option.{slice_get_within, get_or_from_slice_get}
 use Rattle.ja_base.specs.declared.java_type.Kind.{Kind}
@@ -41,8 +40,8 @@ few-params Virtual call types = omega (arith, few-types call.params, types.most)
 few-params Special call types = omega (arith, few-types call.params, types.most)
 few-params Static call types = omega (arith, few-types call.params, types.most)
 few-params Interface call types = omega (arith, few-types call.params, types.most)
-few-params StaticField call types = omega (arith, ap length types.2.0)
-few-params MemberField call types = elim types.2.1 [
+few-params StaticField call types = omega (arith, ap length types.2)
+few-params MemberField call types = elim types.2 [
   | inl read ↦ omega (arith, ap length read.0)
   | inr write ↦ omega (arith, ap length write.0)
 ]

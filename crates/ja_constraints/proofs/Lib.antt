@@ -1,3 +1,2 @@
 pub mod More
 pub mod Few
-pub mod Found

@@ -1,5 +1,5 @@
 -- What is told at first: what the environment makes, runs and hands over, and the texts of fields.
-use Rattle.std.specs.Prelude.{ℕ, suc, Bool, true, false, List, [], ◌∷◌, ◌++◌, Option, Some, None, map, slice_get, if◌then◌else◌}
+use Rattle.std.specs.Prelude.{ℕ, suc, List, [], ◌∷◌, ◌++◌, Option, Some, None, map, slice_get, if◌then◌else◌}
 use Rattle.ja_base.specs.declared.java_type.Kind.{Kind}
 use Rattle.ja_base.specs.declared.java_type.Kind.TheVariants.{R}
 use Rattle.ja_base.specs.declared.java_type.JavaType.{JavaType}

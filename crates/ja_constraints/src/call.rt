@@ -3,7 +3,9 @@ ghost use Rattle.ja_ir.specs.Operations as operations;
 ghost use Rattle.ja_constraints.specs.Calls as calls;
 ghost use Rattle.ja_constraints.specs.Places.{HasFew};
 
-use crate::constraint::{Constraint, Constraints, add_copy, add_link, add_reach, add_throws_library};
+use crate::constraint::{
+    Constraint, Constraints, add_copy, add_link, add_reach, add_throws_library,
+};
 use crate::place::argument_cell;
 use ja_base::Memory;
 use ja_cells::{arguments, has_receiver, is_dispatched};

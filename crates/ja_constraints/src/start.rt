@@ -164,7 +164,15 @@ fn add_gives_all(
 {
     let types = method.types.params.as_slice();
     add_receives(told, p, entry, method)?;
-    add_gives_each(alloc, told, p, classes, entry.method.0, first_param(method), types)
+    add_gives_each(
+        alloc,
+        told,
+        p,
+        classes,
+        entry.method.0,
+        first_param(method),
+        types,
+    )
 }
 
 // Adds what the environment gives to the method of an entry, if there is one.
