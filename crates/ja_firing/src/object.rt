@@ -126,12 +126,7 @@ pub fn add_sources(
 }
 
 /// Adds that what an argument leads to may be answered.
-pub fn add_leads(
-    told: &mut Constraints,
-    method: u32,
-    index: u32,
-    token: u32,
-) -> Result<(), Memory>
+pub fn add_leads(told: &mut Constraints, method: u32, index: u32, token: u32) -> Result<(), Memory>
     ensures { OnOk result (told.new ≡ told.old ++ tokens.leads method index token) }
 {
     add_asks(told, token)?;
@@ -259,12 +254,7 @@ fn add_fields_lead(
 }
 
 // Adds that what is in the bags of a token leads on, if it has any.
-fn add_bag_leads(
-    told: &mut Constraints,
-    p: &Program,
-    start: u32,
-    token: u32,
-) -> Result<(), Memory>
+fn add_bag_leads(told: &mut Constraints, p: &Program, start: u32, token: u32) -> Result<(), Memory>
     ensures { OnOk result (told.new ≡ told.old ++ tokens.bag_leads p.now start token) }
 {
     if absorbs(p, token) {

@@ -245,13 +245,7 @@ fn dispatched_by(
             let selections = class.selections.as_slice();
             Some(selection_among(&call.name, &call.desc, selections))
         }
-        None => {
-            if named {
-                None
-            } else {
-                Some(MethodAt::Library)
-            }
-        }
+        None => { if named { None } else { Some(MethodAt::Library) } }
     }
 }
 
@@ -261,7 +255,13 @@ fn dispatched(p: &Program, classes: &ClassNumbers, call: &CallOp, token: u32) ->
     ensures { result ≡ tokens.dispatched p.now call.now token }
 {
     let shape = classes.shape_of(&call.class);
-    dispatched_by(p, call, token, is_in_program(shape), fits_shape(p, token, shape))
+    dispatched_by(
+        p,
+        call,
+        token,
+        is_in_program(shape),
+        fits_shape(p, token, shape),
+    )
 }
 
 // Adds that a call goes there, and a receiver of a token with it.
