@@ -1,0 +1,7 @@
+use Rattle.std.proofs.Common.{sym}
+use Rattle.ja_constraints.proofs.Few.{few-handed}
+use Rattle.ja_constraints.proofs.event.add_done_there.Goals as goal
+
+pub add_does_there-requires-clause-few : goal.add_does_there-requires-clause-few
+add_does_there-requires-clause-few c =
+    few-handed c.args.p.now c.args.m c.args.i c.in-Some.method.now c.in-Some-instr_of.instr.now c.method_of.ensures.whole (sym c.in-Some.ensures.found) (sym c.in-Some-instr_of.ensures)
