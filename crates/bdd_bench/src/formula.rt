@@ -59,6 +59,26 @@ fn with_pair(
     pool.step(table, Step::Or, made, part)
 }
 
+/// The same where this is allowed.
+fn with_pair_if(
+    pool: &mut Pool,
+    table: &NodeTable<AnyAim>,
+    place: u32,
+    truths: (bool, bool),
+    allowed: bool,
+    rest: usize,
+    made: usize,
+) -> Result<usize, Failure>
+    requires ready { IsReady table.now pool.old }
+    requires place { place < 60 }
+    ensures { OnOk result (IsReady table.now pool.new) }
+{
+    if !allowed {
+        return Ok(made);
+    }
+    with_pair(pool, table, place, truths, rest, made)
+}
+
 /// Adds what goes on from one state, by the masks of a slot's truths.
 fn with_masks(
     pool: &mut Pool,
@@ -76,15 +96,10 @@ fn with_masks(
 {
     let (bit, waits) = state;
     let (waiting, seen) = rests;
-    let mut made = made;
-    if waits && masks.waiting & bit != 0 {
-        made = with_pair(pool, table, place, truths, waiting, made)?;
-    }
+    let stays = waits && masks.waiting & bit != 0;
     let sees = if waits { masks.sees } else { masks.seen };
-    if sees & bit != 0 {
-        made = with_pair(pool, table, place, truths, seen, made)?;
-    }
-    Ok(made)
+    let made = with_pair_if(pool, table, place, truths, stays, waiting, made)?;
+    with_pair_if(pool, table, place, truths, sees & bit != 0, seen, made)
 }
 
 /// What is allowed from one state at a move.
@@ -209,6 +224,23 @@ fn ends(rule: &Rule) -> Tails {
     }
 }
 
+/// Adds a relation, where this is allowed.
+fn with_start(
+    pool: &mut Pool,
+    table: &NodeTable<AnyAim>,
+    allowed: bool,
+    f: usize,
+    made: usize,
+) -> Result<usize, Failure>
+    requires ready { IsReady table.now pool.old }
+    ensures { OnOk result (IsReady table.now pool.new) }
+{
+    if !allowed {
+        return Ok(made);
+    }
+    pool.step(table, Step::Or, made, f)
+}
+
 /// The relation of present and next that a rule of two states allows.
 pub fn formula(pool: &mut Pool, table: &NodeTable<AnyAim>, rule: &Rule) -> Result<usize, Failure>
     requires { IsReady table.now pool.old }
@@ -219,18 +251,8 @@ pub fn formula(pool: &mut Pool, table: &NodeTable<AnyAim>, rule: &Rule) -> Resul
         tails = before(pool, table, rule, FRAME - 1 - down, tails)?;
     }
     let start = rule.start;
-    let mut made = FALSE;
-    if start.waiting & 1 != 0 {
-        made = pool.step(table, Step::Or, made, tails.waiting[0])?;
-    }
-    if start.waiting & 2 != 0 {
-        made = pool.step(table, Step::Or, made, tails.waiting[1])?;
-    }
-    if start.seen & 1 != 0 {
-        made = pool.step(table, Step::Or, made, tails.seen[0])?;
-    }
-    if start.seen & 2 != 0 {
-        made = pool.step(table, Step::Or, made, tails.seen[1])?;
-    }
-    Ok(made)
+    let made = with_start(pool, table, start.waiting & 1 != 0, tails.waiting[0], FALSE)?;
+    let made = with_start(pool, table, start.waiting & 2 != 0, tails.waiting[1], made)?;
+    let made = with_start(pool, table, start.seen & 1 != 0, tails.seen[0], made)?;
+    with_start(pool, table, start.seen & 2 != 0, tails.seen[1], made)
 }

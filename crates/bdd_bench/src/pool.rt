@@ -220,7 +220,8 @@ impl Pool {
     {
         let f = self.node(f)?;
         let g = self.node(g)?;
-        let (made, time) = composed(rt, table, &mut self.worker, f, g)?;
+        let both = composed(rt, table, &mut self.worker, f, g)?;
+        let (made, time) = both;
         self.nodes.push(made)?;
         Ok((self.nodes.len() - 1, time))
     }

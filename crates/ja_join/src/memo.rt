@@ -84,8 +84,7 @@ impl Memo {
     {
         let states = u64::from(states.waiting) << 32 | u64::from(states.seen);
         let key = u64::from(asked.number) << 32 ^ at as u64 ^ states.wrapping_mul(MIXER);
-        let upper = key.wrapping_mul(MIXER) >> 32;
-        (upper % self.entries.len() as u64) as usize
+        scaled(key.wrapping_mul(MIXER) >> 32, self.entries.len())
     }
 
     /// What was answered in this call, if it is noted.
@@ -118,4 +117,13 @@ impl Memo {
             made,
         };
     }
+}
+
+/// So much of the numbers below `entries`, as a 32 bit number is of all of these.
+fn scaled(upper: u64, entries: usize) -> usize
+    requires upper { upper < 4294967296 }
+    requires entries { (1 ≤ entries) × (entries ≤ 1048576) }
+    ensures { result < entries }
+{
+    (upper * entries as u64 >> 32) as usize
 }
