@@ -1,5 +1,6 @@
 ghost use Rattle.std.specs.Prelude.{◌≡◌, ◌+◌, ◌≤◌, length};
 ghost use Rattle.ja_facts.specs.FactTables.{name_count, live_count};
+ghost use Rattle.ja_base.specs.Limit.{max_frame_values};
 
 use ja_ir::Method;
 use ja_sets::PairSet;
@@ -14,7 +15,7 @@ pub struct Before<'a> {
     pub(crate) is_abstract: bool,
     /// Whether a call may go to the library.
     pub(crate) is_library: bool,
-    ghost small: { method.now.locals + method.now.stack ≤ 512 },
+    ghost small: { method.now.locals + method.now.stack ≤ max_frame_values },
     ghost pairs_count: { length pairs.now ≡ name_count method.now },
     ghost reach_count: { length reach.now ≡ live_count method.now },
 }

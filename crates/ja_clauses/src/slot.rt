@@ -2,6 +2,7 @@ ghost use Rattle.std.specs.Prelude.{◌≡◌, ◌+◌, ◌≤◌, ◌<◌, IfSo
 ghost use Rattle.ja_work.specs.Clauses as clauses;
 ghost use Rattle.ja_work.specs.Told as told;
 ghost use Rattle.ja_clauses.specs.Slots.{as_slot};
+ghost use Rattle.ja_base.specs.Limit.{max_frame_values};
 
 use ja_ir::Method;
 use ja_work::Spot;
@@ -27,7 +28,7 @@ pub fn spot_of(slot: Slot) -> Spot
 
 /// The number of a slot of a method, if it is one.
 pub fn number_of(method: &Method, slot: Slot) -> Option<u32>
-    requires { method.now.locals + method.now.stack ≤ 512 }
+    requires { method.now.locals + method.now.stack ≤ max_frame_values }
     ensures number { result ≡ told.number_of method.now (as_slot slot) }
     ensures below { IfSome result (λ n. n < method.now.locals + method.now.stack) }
 {
