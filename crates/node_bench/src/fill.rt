@@ -6,9 +6,13 @@ ghost use Rattle.ja_base.specs.Limit.{last_variable};
 
 use crate::ask::ask;
 use crate::load::Failure;
+use ja_base::MAX_VARIABLES;
 use ja_node_core::AnyAim;
 use ja_node_table::{Node, NodeSeat, NodeTable, Parts};
 use std::alloc::Global;
+
+/// The last variable of a diagram.
+const LAST: u32 = MAX_VARIABLES - 1;
 
 /// How many nodes of one variable are asked for.
 const WIDTH: u64 = 1_000;

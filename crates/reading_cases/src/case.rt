@@ -6,7 +6,7 @@ use ja_ir::Program;
 use ja_reading::{Judgement, ReadingFault, judge_folder};
 use std::alloc::Global;
 use std::thread::Threads;
-use tool_parts::{ListingFault, refusal_text, text_of};
+use tool_parts::{ListingFault, text_of, text_of_refusal};
 
 /// What comes of the cases of the input, which empty lines part.
 pub fn cases_text<R: Threads + Sync>(rt: &R, alloc: Global, text: &str) -> Result<String, Memory> {
@@ -72,7 +72,7 @@ fn judged_text<R: Threads + Sync>(
 fn judgement_text(alloc: Global, judgement: &Judgement) -> Result<String, Memory> {
     match judgement {
         Judgement::Accepted(program) => program_text(alloc, program),
-        Judgement::Refused(refusal) => refusal_text(alloc, refusal),
+        Judgement::Refused(refusal) => text_of_refusal(alloc, refusal),
     }
 }
 
