@@ -66,7 +66,8 @@ pub fn touch_sources(
 // How many of the first arguments of a library call are its sources.
 fn source_count(call: &CallOp) -> u32
     requires { operations.arguments call.now < 2 ^ 32 }
-    ensures { (x : ℕ) → (x < result) ↔ IsSource call.now x call.now.row.effect }
+    ensures few { result ≤ operations.arguments call.now }
+    ensures sources { (x : ℕ) → (x < result) ↔ IsSource call.now x call.now.row.effect }
 {
     match call.row.effect {
         RowEffect::Quiet => 0,
