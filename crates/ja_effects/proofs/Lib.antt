@@ -1,2 +1,4 @@
 mod Marking
 mod Directing
+mod Entering
+mod Closing

@@ -91,3 +91,7 @@ pub record HasDirect (p : Parts) (C : ClassFact → Type 0) (pairs : Pairs) (m :
 -- each effect that was in the table is in it
 abbrev pub IsKept : Parts → (old new : List (List Bool)) → Type 0
 IsKept p old new = (m : ℕ) (r : Root) → EffectHas p old m r → EffectHas p new m r
+
+-- what instructions change themselves is in the table
+abbrev pub HasAllDirect : Parts → (C : ClassFact → Type 0) → Pairs → List (List Bool) → Type 0
+HasAllDirect p C pairs table = (m i : ℕ) (r : Root) → Direct p C pairs m i r → EffectHas p table m r
