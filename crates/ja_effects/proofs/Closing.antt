@@ -20,7 +20,7 @@ use Rattle.ja_facts.specs.Slots.{CallAt}
 use Rattle.ja_facts.specs.ClassSets.{Fact as ClassFact, Reached, CallsMethod}
 use Rattle.ja_facts.specs.Crossings.{Enters, by_call, by_initializer}
 use Rattle.ja_facts.specs.Sharing.{Fact, PairAt, PairWithin, Effect, Root, Old, Name, OfSlot, StaticFields, Rule, written_effect, static_effect, library_effect, entered_effect, EffectRule, effect_rule, given_pair, IsEffect, IsPair, root_name}
-use Rattle.ja_facts.specs.FactTables.{GraphTable, empty_effects, empty_pairs, no_effects_of}
+use Rattle.ja_facts.specs.FactTables.{GraphTable, targets_at, empty_effects, empty_pairs, no_effects_of}
 use Rattle.ja_facts.specs.Told.{TellsGraph, TellsHeap, PairHas, EffectHas, IsGraphFor, IsTargetOf, GoesTo}
 use Rattle.ja_facts.proofs.LeastLaws.{Least-is_solution, Least-below}
 use Rattle.ja_facts.proofs.Empty.{no-heap_fact}
@@ -90,7 +90,7 @@ module _ (p : Parts) (C : ClassFact → Type 0) where
         subst (λ (x : Instr). Contains (inits_of p x.op) (record { 0 = n })) same init.listed
 
 -- a target of a call takes its arguments
-pub target-counts : (p : Parts) (graph : GraphTable) (m i n under : ℕ) (call : CallOp) (callee : Method) → IsGraphFor p graph → CallAt p m i call under → Contains _ n → slice_get p.methods n ≡ Some callee → arguments call ≤ param_count callee
+pub target-counts : (p : Parts) (graph : GraphTable) (m i n under : ℕ) (call : CallOp) (callee : Method) → IsGraphFor p graph → CallAt p m i call under → Contains (targets_at graph m i).methods n → slice_get p.methods n ≡ Some callee → arguments call ≤ param_count callee
 target-counts p graph m i n under call callee is at listed found =
     let target : IsTargetOf p call n = is.each m i n at.height call at.at listed in
     let same : target.method ≡ callee = same_Some target.method callee (sym target.found ∙ found) in

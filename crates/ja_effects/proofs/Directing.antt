@@ -238,7 +238,7 @@ code-within : (p : Parts) (n i : ℕ) (instr : Instr) (method : Option Method) �
 code-within p n i instr (Some method) e at = slice_get_within p.methods n method e
 code-within p n i instr None e at = absurd (cc at)
 
-op-within : (p : Parts) (n i : ℕ) (instr : Instr) → instr_at p n i ≡ Some instr → n < length p.methods
+pub op-within : (p : Parts) (n i : ℕ) (instr : Instr) → instr_at p n i ≡ Some instr → n < length p.methods
 op-within p n i instr at = code-within p n i instr (slice_get p.methods n) refl at
 
 module _ (p : Parts) (C : ClassFact → Type 0) (pairs : Pairs) where
