@@ -2,7 +2,7 @@
 use Rattle.std.proofs.Common.{◌≡◌, ◌⊎◌, ◌↔◌, inl, inr, ℕ, zero, suc, ◌+◌, ◌-◌, ◌<◌, ◌≤◌, Bool, true, false, ◌||◌, List, [], ◌∷◌, Option, Some, None, length, map, replicate, get_or, refl, sym, ap, subst, ◌∙◌, true≢false, arith}
 use Rattle.std.specs.Prelude.{Contains, slice_get}
 use Rattle.std.proofs.lemmas.Bool.{cases_lt}
-use Rattle.std.proofs.lemmas.Option.{same_Some, slice_get_within, slice_get_read, slice_get-get_or}
+use Rattle.std.proofs.lemmas.Option.{same_Some, slice_get_within, slice_get_read, slice_get-get_or, get_or_from_slice_get}
 use Rattle.std.proofs.Math.ListN.{length-replicate}
 use Rattle.ja_base.specs.declared.id.MethodId.{MethodId}
 use Rattle.ja_ir.specs.declared.program.Parts.{Parts}
@@ -152,3 +152,11 @@ module _ (p : Parts) (graph : GraphTable) (pairs : Pairs) where
 
     pub exact : (f : Fact) → IsEffect f → TellsHeap p (TellsGraph p graph) pairs table f ↔ LeastEffects p graph pairs f
     exact f is = (told-least f is, λ l. Least-below (EffectRule p (TellsGraph p graph) (TellsHeap p (TellsGraph p graph) pairs [])) (TellsHeap p (TellsGraph p graph) pairs table) solves f l)
+
+-- the item at a place is in the list
+pub item-in : {A : Type 0} (xs : List A) (k : ℕ) (d : A) → k < length xs → Contains xs (get_or xs k d)
+item-in xs k d lt = (k, lt, get_or_from_slice_get xs k (get_or xs k d) (get_or xs k d) (slice_get-get_or xs k d lt))
+
+pub not-empty : {A : Type 0} (b : Bool) (xs : List A) → ((b ≡ true) ↔ (xs ≡ [])) → b ≡ false → 0 < length xs
+not-empty b [] tells e = absurd (true≢false (sym (tells.1 refl) ∙ e))
+not-empty b (x ∷ xs) tells e = omega arith
