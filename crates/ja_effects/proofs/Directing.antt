@@ -96,12 +96,14 @@ module _ (p : Parts) (C : ClassFact → Type 0) (pairs : Pairs) (m i : ℕ) (ins
       let same : other ≡ call = cc (is, c) in
       let height : library.at.height ≡ instr.height = (one-op p m i library.at.height (Call other) instr found library.at.at).1 in
       let args : arguments other ≡ arguments call = ap arguments same in
-      let e : u ≡ under = let a = library.at.under_is in omega arith in
-      (library.goes, record {
-        x = x;
-        source = subst (λ (z : CallOp). IsSource z x z.row.effect) same source;
-        pair = subst (λ z. PairHas p pairs m i (OfSlot (argument z x)) (Old r)) e pair;
-      })
+      let e : u ≡ under = let a = library.at.under_is in omega arith in (
+        library.goes,
+        record {
+          x = x;
+          source = subst (λ (z : CallOp). IsSource z x z.row.effect) same source;
+          pair = subst (λ z. PairHas p pairs m i (OfSlot (argument z x)) (Old r)) e pair;
+        },
+      )
 
   other-back : (r : Root) → ((f : FieldId) → instr.op ≡ PutField f → ⊥) → ((kind : Kind) → instr.op ≡ ArrStore kind → ⊥) → ((f : FieldId) → instr.op ≡ PutStatic f → ⊥) → ((call : CallOp) → instr.op ≡ Call call → ⊥) → Direct p C pairs m i r → ⊥
   other-back r field element static call (writes {height = height} {op = op} {x = x} {v = v} at c w pair) =

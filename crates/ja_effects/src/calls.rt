@@ -84,7 +84,9 @@ fn enter_target(
         return false;
     }
     let count = arguments(call) as u32;
-    enter(p, g, s, m, method, frame, i, n as u32, count, under, effects)
+    enter(
+        p, g, s, m, method, frame, i, n as u32, count, under, effects,
+    )
 }
 
 // Adds the effects of a call by its targets.

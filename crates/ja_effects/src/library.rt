@@ -71,13 +71,7 @@ fn source_count(call: &CallOp) -> u32
 {
     match call.row.effect {
         RowEffect::Quiet => 0,
-        RowEffect::Absorb => {
-            if has_receiver(call.kind) {
-                1
-            } else {
-                0
-            }
-        }
+        RowEffect::Absorb => { if has_receiver(call.kind) { 1 } else { 0 } }
         RowEffect::Blend => arguments(call) as u32,
     }
 }

@@ -31,8 +31,8 @@ loop-n-preserved c =
     record {
       stage = stage-more c.args.p.now c.args.g.now c.args.s.now l.changed t.result c.args.effects.now l.effects t.new.effects l.invariant.stage t.ensures.step;
       closed = closed-more (λ (table : List (List Bool)) k. (n : MethodId) → slice_get c.inits_of-list.result.now k ≡ Some n → IsPassed c.args.p.now c.args.s.now table c.args.m c.args.i n.0 0 c.args.instr.now.height)
-      l.changed t.result l.effects t.new.effects l.n-index l.invariant.closed t.ensures.step.idle
-      (λ e n at. subst (λ (x : MethodId). IsPassed c.args.p.now c.args.s.now t.new.effects c.args.m c.args.i x.0 0 c.args.instr.now.height) (same_Some (get_or c.inits_of-list.result.now c.loop-n.n-index (record { 0 = 0 })) n (sym (slice_get-get_or c.inits_of-list.result.now c.loop-n.n-index (record { 0 = 0 }) lt) ∙ at)) (t.ensures.closed e));
+          l.changed t.result l.effects t.new.effects l.n-index l.invariant.closed t.ensures.step.idle
+          (λ e n at. subst (λ (x : MethodId). IsPassed c.args.p.now c.args.s.now t.new.effects c.args.m c.args.i x.0 0 c.args.instr.now.height) (same_Some (get_or c.inits_of-list.result.now c.loop-n.n-index (record { 0 = 0 })) n (sym (slice_get-get_or c.inits_of-list.result.now c.loop-n.n-index (record { 0 = 0 }) lt) ∙ at)) (t.ensures.closed e));
     }
 
 pub returns-clause-closed : goal.returns-clause-closed

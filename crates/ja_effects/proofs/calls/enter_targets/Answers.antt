@@ -18,8 +18,8 @@ loop-n-preserved c =
     record {
       stage = stage-more c.args.p.now c.args.g.now c.args.s.now l.changed t.result c.args.effects.now l.effects t.new.effects l.invariant.stage t.ensures.step;
       closed = closed-more (λ (table : List (List Bool)) k. (n : ℕ) → slice_get c.as_slice-targets.result.now k ≡ Some n → TellsGraph c.args.p.now c.args.g.now (CallsMethod c.args.m c.args.i n) → IsPassed c.args.p.now c.args.s.now table c.args.m c.args.i n (arguments c.args.call.now) c.args.under)
-      l.changed t.result l.effects t.new.effects l.n-index l.invariant.closed t.ensures.step.idle
-      (λ e n at. subst (λ x. TellsGraph c.args.p.now c.args.g.now (CallsMethod c.args.m c.args.i x) → IsPassed c.args.p.now c.args.s.now t.new.effects c.args.m c.args.i x (arguments c.args.call.now) c.args.under) (same_Some (get_or c.as_slice-targets.result.now c.loop-n.n-index 0) n (sym (slice_get-get_or c.as_slice-targets.result.now c.loop-n.n-index 0 lt) ∙ at)) (t.ensures.closed e));
+          l.changed t.result l.effects t.new.effects l.n-index l.invariant.closed t.ensures.step.idle
+          (λ e n at. subst (λ x. TellsGraph c.args.p.now c.args.g.now (CallsMethod c.args.m c.args.i x) → IsPassed c.args.p.now c.args.s.now t.new.effects c.args.m c.args.i x (arguments c.args.call.now) c.args.under) (same_Some (get_or c.as_slice-targets.result.now c.loop-n.n-index 0) n (sym (slice_get-get_or c.as_slice-targets.result.now c.loop-n.n-index 0 lt) ∙ at)) (t.ensures.closed e));
     }
 
 pub returns-clause-closed : goal.returns-clause-closed

@@ -79,5 +79,5 @@ pub returns-in_default : goal.returns-in_default
 returns-in_default c = record {
   flags = c.requires.flags;
   gains = gains-none c.args.p.now c.args.effects.now (λ n r. (n ≡ c.args.m) × Direct c.args.p.now (TellsGraph c.args.p.now c.args.g.now) c.args.s.now c.args.m c.args.i r)
-  (λ n s q. absurd (direct-other c.args.p.now (TellsGraph c.args.p.now c.args.g.now) c.args.s.now c.args.m c.args.i c.args.instr.now (instr-in c.args.p.now c.args.m c.args.i c.args.method.now c.args.instr.now c.requires.found c.requires.instr) s c.in_default.not-PutField c.in_default.not-ArrStore c.in_default.not-PutStatic c.in_default.not-Call q.1));
+      (λ n s q. absurd (direct-other c.args.p.now (TellsGraph c.args.p.now c.args.g.now) c.args.s.now c.args.m c.args.i c.args.instr.now (instr-in c.args.p.now c.args.m c.args.i c.args.method.now c.args.instr.now c.requires.found c.requires.instr) s c.in_default.not-PutField c.in_default.not-ArrStore c.in_default.not-PutStatic c.in_default.not-Call q.1));
 }

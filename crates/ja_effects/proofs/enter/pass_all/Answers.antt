@@ -14,7 +14,7 @@ loop-a-init c =
     passes-start c.args.p.now c.args.g.now c.args.s.now c.args.m c.args.i c.args.n c.args.count c.args.under c.requires.enters c.args.effects.now c.pass-changed.new.effects c.pass-changed.result c.requires.flags c.requires.sound (record {
       flags = c.pass-changed.ensures.flags;
       gains = c.pass-changed.ensures.gains (get_or c.args.p.now.methods c.args.n c.args.method.now) StaticFields Statics there
-      (effect_on_statics (c.frame_of-params.ensures.frame (get_or c.args.p.now.methods c.args.n c.args.method.now) there).params) (named_statics (omega (arith, c.statics-statics.ensures, c.requires.frame.locals, c.requires.frame.stack)));
+          (effect_on_statics (c.frame_of-params.ensures.frame (get_or c.args.p.now.methods c.args.n c.args.method.now) there).params) (named_statics (omega (arith, c.statics-statics.ensures, c.requires.frame.locals, c.requires.frame.stack)));
       idle = c.pass-changed.ensures.idle;
       falls = c.pass-changed.ensures.falls;
     })
@@ -27,8 +27,8 @@ loop-a-preserved c =
     passes-more c.args.p.now c.args.g.now c.args.s.now c.args.m c.args.i c.args.n c.args.count c.args.under c.requires.enters c.loop-a.changed c.pass-changed-in-loop-a.result c.loop-a.a c.args.effects.now c.loop-a.effects c.pass-changed-in-loop-a.new.effects lt c.loop-a.invariant (record {
       flags = t.ensures.flags;
       gains = t.ensures.gains (get_or c.args.p.now.methods c.args.n c.args.method.now) (Arg c.loop-a.a) (OfSlot (argument c.args.under c.loop-a.a)) there
-      (effect_on_argument (omega (arith, c.requires.params (get_or c.args.p.now.methods c.args.n c.args.method.now) there)))
-      (stack-named c.args.method.now c.args.frame (c.args.under + c.loop-a.a) (c.args.frame.locals + c.args.under + c.loop-a.a) c.requires.frame (omega (arith, c.requires.room)) (omega arith));
+          (effect_on_argument (omega (arith, c.requires.params (get_or c.args.p.now.methods c.args.n c.args.method.now) there)))
+          (stack-named c.args.method.now c.args.frame (c.args.under + c.loop-a.a) (c.args.frame.locals + c.args.under + c.loop-a.a) c.requires.frame (omega (arith, c.requires.room)) (omega arith));
       idle = t.ensures.idle;
       falls = t.ensures.falls;
     })
