@@ -1,0 +1,4 @@
+mod Marking
+mod Directing
+mod Entering
+mod Closing
