@@ -1,0 +1,5 @@
+//! The ends of instructions as decision diagrams.
+#![tactic(auto)]
+
+mod gather;
+mod literal;
