@@ -1,1 +1,3 @@
 pub mod Meant
+pub mod Placed
+pub mod Gathered

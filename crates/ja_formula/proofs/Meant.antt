@@ -25,7 +25,7 @@ module _ (k : Words) (sound : Sound k) where
   pub constant_known : (n : ℕ) (b : Bool) → n ≡ constant b → Knows k n
   constant_known n b e = subst (Knows k) (sym e) (knows_constant k b)
 
-  constant_means : (n : ℕ) (b : Bool) → n ≡ constant b → meaning k n ≡ (λ a. b)
+  pub constant_means : (n : ℕ) (b : Bool) → n ≡ constant b → meaning k n ≡ (λ a. b)
   constant_means n b e = ap (meaning k) e ∙ meaning_constant k sound b
 
   pub constant_after : (n v : ℕ) (b : Bool) → n ≡ constant b → IsAfter v (meaning k n)

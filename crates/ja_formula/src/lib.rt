@@ -3,3 +3,4 @@
 
 mod gather;
 mod literal;
+mod places;
