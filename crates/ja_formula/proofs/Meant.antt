@@ -3,6 +3,10 @@ use Rattle.std.proofs.Common.{◌≡◌, ℕ, suc, ◌<◌, ◌≤◌, Bool, tru
 use Rattle.std.specs.Prelude.{if◌then◌else◌, not}
 use Rattle.ja_node_core.specs.Node.{Words, Knows, constant}
 use Rattle.ja_bdd.specs.Functions.{Function, both, either, chosen, IsAfter}
+use Rattle.ja_node_core.specs.declared.aim.Aim.{Ghosts}
+use Rattle.ja_node_table.specs.declared.table.NodeTable.{NodeTable}
+use Rattle.ja_node_table.specs.declared.full.Full.{Full}
+use Rattle.ja_formula.specs.Made.{LacksRoomFor}
 use Rattle.ja_bdd.specs.Meaning.{meaning, IsMeant, Keeps}
 use Rattle.ja_bdd.proofs.Sound.{Sound, knows_constant, meaning_constant}
 use Rattle.ja_work.specs.Work.{literal, tied_by, signed}
@@ -52,3 +56,7 @@ module _ (old new : Words) (one rest v : ℕ) (positive tied : Bool) (is : meani
 
   pub tied_or : tied ≡ false → either (meaning new one) (meaning new rest) ≡ tied_by tied (literal v positive) (meaning old rest)
   tied_or e = ap (λ φ. either φ (meaning new rest)) is ∙ ap (either (literal v positive)) kept ∙ ap (λ b. tied_by b (literal v positive) (meaning old rest)) (sym e)
+
+-- want of room for one kind is one for a wider kind
+pub lacks_wider : {A : Type 0} {G : Ghosts A} (t : NodeTable A) (k : Words) (kind wider : Function → Type 0) (e : Full A G) → ((φ : Function) → kind φ → wider φ) → LacksRoomFor t k kind e → LacksRoomFor t k wider e
+lacks_wider t k kind wider e more lacks = record { φ = lacks.φ; is = more lacks.φ lacks.is; lacks = lacks.lacks }
