@@ -1,3 +1,4 @@
 pub mod Meant
 pub mod Placed
 pub mod Gathered
+pub mod Clausal

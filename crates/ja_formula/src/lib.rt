@@ -1,6 +1,7 @@
 //! The ends of instructions as decision diagrams.
 #![tactic(auto)]
 
+mod clause;
 mod gather;
 mod literal;
 mod places;
