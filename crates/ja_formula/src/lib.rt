@@ -5,3 +5,5 @@ mod clause;
 mod gather;
 mod literal;
 mod places;
+
+pub use clause::clause_node;
