@@ -1,7 +1,7 @@
 ghost use Rattle.std.specs.Prelude.{◌≡◌};
 ghost use Rattle.ja_ir.specs.Operations as operations;
 
-use ja_ir::{CallKind, CallOp, Op};
+use crate::op::{CallKind, CallOp, Op};
 
 /// Whether a call of this kind has a receiver.
 pub fn has_receiver(kind: CallKind) -> bool
