@@ -1,4 +1,4 @@
-ghost use Rattle.std.specs.Prelude.{◌≡◌, ◌<◌, ◌↔◌, ◌&&◌, ℕ, true, false, Some, IfOk, IfErr, length, slice_get};
+ghost use Rattle.std.specs.Prelude.{◌≡◌, ◌<◌, ◌↔◌, ◌&&◌, true, false, Some, IfOk, IfErr, length, slice_get};
 ghost use Rattle.ja_ir.specs.Lookup.{code_of, instr_at};
 ghost use Rattle.ja_node_core.specs.Tree.{Assignment as Variables};
 ghost use Rattle.ja_node_table.specs.Seats.{aim_of};

@@ -1,4 +1,4 @@
-ghost use Rattle.std.specs.Prelude.{◌≡◌, ◌+◌, ◌≤◌, ℕ, false, Bool, IfOk, IfErr};
+ghost use Rattle.std.specs.Prelude.{◌≡◌, ◌+◌, ◌≤◌, false, IfOk, IfErr};
 ghost use Rattle.ja_node_core.specs.Node.{constant};
 ghost use Rattle.ja_node_table.specs.Seats.{aim_of};
 ghost use Rattle.ja_bdd.specs.Meaning.{IsMeant, Keeps};

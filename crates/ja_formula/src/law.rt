@@ -1,4 +1,4 @@
-ghost use Rattle.std.specs.Prelude.{◌≡◌, ◌↔◌, ℕ, List, true, Some};
+ghost use Rattle.std.specs.Prelude.{ℕ, List};
 ghost use Rattle.ja_ir.specs.declared.program.Parts.{Parts};
 ghost use Rattle.ja_ir.specs.declared.method.Method.{Method};
 ghost use Rattle.ja_facts.specs.declared.facts.Facts.{Facts};
