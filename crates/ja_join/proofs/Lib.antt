@@ -1,5 +1,6 @@
 pub mod Composing
 pub mod Stepping
+pub mod Handing
 pub mod Leading
 pub mod Aiming
 pub mod Remembering

@@ -2,4 +2,5 @@ pub mod Composed
 pub mod Ascending
 pub mod Moves
 pub mod Steps
+pub mod Memos
 pub mod Inner

@@ -12,5 +12,5 @@ pub use compose::{after, looks_in, project};
 pub use ja_bdd::Copies;
 pub use law::{law_composed, law_step};
 pub use memo::Memo;
-pub use pass::step;
+pub use pass::{step, step_with};
 pub use rule::{Masks, Move, Rule, States};
