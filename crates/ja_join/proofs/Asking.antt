@@ -61,7 +61,7 @@ halved_still k l keeps v r lo hi known halved =
 
 -- the moves behind one, as the rule has them
 module _ (rule : Rule) (at : ℕ) (step : Move) (next : drop at rule.moves.items ≡ step ∷ drop (at + 1) rule.moves.items) where
-  rest : List Move
+  abbrev rest : List Move
   rest = drop (at + 1) rule.moves.items
 
   pub up_behind : (from : ℕ) → AscendFrom from (drop at rule.moves.items) → AscendFrom (step.variable + 1) (drop (at + 1) rule.moves.items)

@@ -17,7 +17,7 @@ cleared_to-requires g t c κs within =
     let from = subst (λ k. IsFrom (cut.var + 1) (meaning k cut.low.number)) (sym e.same) (cut_from (seen w) cut.var c.args.g.number cut.low.number cut.high.number e.halved) in
     let no = c.if-cut-var.false in
     let le = e.var in
-    (omega arith, (within, (search rules, (search rules, (from, (omega arith, c.requires.var))))))
+    (omega arith, (within, (search rules, (search rules, (search rules, (search rules, (from, (omega arith, c.requires.var))))))))
 
 pub returns-clause-low : goal.returns-clause-low
 returns-clause-low g t c =

@@ -22,7 +22,7 @@ is_true_of_none-requires g t c κs within =
     let later : c.args.from ≤ parts.var = dite (dec_lt parts.var c.args.from) (λ lt. absurd (looks_there (seen w) (seat_sound w.seat) parts.var c.args.g.number parts.lo.number parts.hi.number e.parts e.apart (c.requires.later parts.var lt))) (λ not. omega arith) in
     let from = subst (λ k. IsFrom (parts.var + 1) (meaning k parts.lo.number)) (sym e.same) (cut_from (seen w) parts.var c.args.g.number parts.lo.number parts.hi.number e.parts) in
     let small = parts.small in
-    (omega arith, (within, (search rules, (search rules, (from, omega arith)))))
+    (omega arith, (within, (search rules, (search rules, (search rules, (search rules, (from, omega arith)))))))
 
 pub returns-clause-is : goal.returns-clause-is
 returns-clause-is g t c =

@@ -1,4 +1,5 @@
-use Rattle.std.proofs.Common.{rules, ◌≡◌, ◌+◌, ◌*◌, ◌<◌, true, false, length, drop, refl, sym, ◌∙◌, subst, arith}
+use Rattle.std.proofs.Common.{rules, ◌≡◌, ◌+◌, ◌<◌, ◌≤◌, IfOk, IfErr, true, false, length, drop, refl, sym, ◌∙◌, subst, arith}
+use Rattle.std.proofs.lemmas.List.{drop_all}
 use Rattle.std.proofs.lemmas.Result.{IfOk-weaker, IfErr-weaker}
 use Rattle.ja_node_table.specs.Seats.{aim_of}
 use Rattle.ja_bdd.specs.Functions.{Function, fixed, either, chosen}
@@ -6,7 +7,7 @@ use Rattle.ja_bdd.specs.Meaning.{meaning, IsMeant, IsHalved}
 use Rattle.ja_bdd.specs.Workers.{seen}
 use Rattle.ja_join.specs.Ascending.{TellFrom}
 use Rattle.ja_join.specs.Steps.{LacksRoomAmong}
-use Rattle.ja_join.specs.Inner.{passed_from, parted, IsTaken, IsAsked}
+use Rattle.ja_join.specs.Inner.{passed, passed_from, parted, IsTaken, IsAsked}
 use Rattle.ja_join.proofs.Passing.{lacks_whole}
 use Rattle.ja_join.proofs.Handing.{taken_still}
 use Rattle.ja_join.proofs.Remembering.{meant_still, right_noted}
@@ -167,6 +168,170 @@ step_cut-step_moved-requires-clause-taken g t c κs within =
     let low1 = subst (λ k. IsTaken k step.told false q c.take_told-told.result.low.number) (sym e.same) e.low in
     let high1 = subst (λ k. IsTaken k step.told true q c.take_told-told.result.high.number) (sym e.same) e.high in
     (low1, high1)
+
+pub step_cut-returns-then-step-clause-made : goal.step_cut-returns-then-step-clause-made
+step_cut-returns-then-step-clause-made g t c =
+    let t' = c.args.table.now in
+    let rule = c.args.rule.now in
+    let at = c.args.at in
+    let s = c.args.states in
+    let w = c.args.worker.now in
+    let m = c.args.memo.now in
+    let r = c.args.r.number in
+    let q = c.args.g.number in
+    let asked = c.requires.asked in
+    let step = c.args.step in
+    let w1 = c.take_told-told.new.worker in
+    let e = c.take_told-told.ensures in
+    let w2 = c.step_to.new.worker in
+    let m2 = c.step_to.new.memo in
+    made_more t' rule w w1 w2 m m2 (made_none t' rule w w1 m e.worker e.same asked.right) c.step_to.ensures.made
+
+pub step_cut-returns-then-step-clause-ok : goal.step_cut-returns-then-step-clause-ok
+step_cut-returns-then-step-clause-ok g t c =
+    let t' = c.args.table.now in
+    let rule = c.args.rule.now in
+    let at = c.args.at in
+    let s = c.args.states in
+    let w = c.args.worker.now in
+    let m = c.args.memo.now in
+    let r = c.args.r.number in
+    let q = c.args.g.number in
+    let asked = c.requires.asked in
+    let step = c.args.step in
+    let w1 = c.take_told-told.new.worker in
+    let e = c.take_told-told.ensures in
+    let w2 = c.step_to.new.worker in
+    let m2 = c.step_to.new.memo in
+    let same : parted rule.accepted step (drop (at + 1) rule.moves.items) s false (meaning (seen w1) r) (meaning (seen w1) q) ≡ passed_from rule at s (meaning (seen w) r) (meaning (seen w) q) =
+        ((λ i. parted rule.accepted step (drop (at + 1) rule.moves.items) s false (meaning (e.same i) r) (meaning (e.same i) q)) ∙ forgot_whole rule at s c.args.cut.var step (meaning (seen w) r) (meaning (seen w) q) c.requires.next c.if-step.true asked.ascending) in
+    subst (λ χ. IfOk c.step_to.result (λ n. IsMeant (seen w2) n.number χ)) same c.step_to.ensures.ok
+
+pub step_cut-returns-then-step-clause-full : goal.step_cut-returns-then-step-clause-full
+step_cut-returns-then-step-clause-full g t c =
+    let t' = c.args.table.now in
+    let rule = c.args.rule.now in
+    let at = c.args.at in
+    let s = c.args.states in
+    let w = c.args.worker.now in
+    let m = c.args.memo.now in
+    let r = c.args.r.number in
+    let q = c.args.g.number in
+    let asked = c.requires.asked in
+    let step = c.args.step in
+    let w1 = c.take_told-told.new.worker in
+    let e = c.take_told-told.ensures in
+    let w2 = c.step_to.new.worker in
+    let m2 = c.step_to.new.memo in
+    let same : parted rule.accepted step (drop (at + 1) rule.moves.items) s false (meaning (seen w1) r) (meaning (seen w1) q) ≡ passed_from rule at s (meaning (seen w) r) (meaning (seen w) q) =
+        ((λ i. parted rule.accepted step (drop (at + 1) rule.moves.items) s false (meaning (e.same i) r) (meaning (e.same i) q)) ∙ forgot_whole rule at s c.args.cut.var step (meaning (seen w) r) (meaning (seen w) q) c.requires.next c.if-step.true asked.ascending) in
+    subst (λ χ. IfErr c.step_to.result (LacksRoomAmong t' (seen w2) χ)) same c.step_to.ensures.full
+
+pub step_cut-returns-clause-made : goal.step_cut-returns-clause-made
+step_cut-returns-clause-made g t c =
+    let t' = c.args.table.now in
+    let rule = c.args.rule.now in
+    let at = c.args.at in
+    let s = c.args.states in
+    let w = c.args.worker.now in
+    let m = c.args.memo.now in
+    let r = c.args.r.number in
+    let q = c.args.g.number in
+    let asked = c.requires.asked in
+    let step = c.args.step in
+    let w1 = c.take_told-told.new.worker in
+    let e = c.take_told-told.ensures in
+    let w2 = c.step_moved.new.worker in
+    let m2 = c.step_moved.new.memo in
+    made_more t' rule w w1 w2 m m2 (made_none t' rule w w1 m e.worker e.same asked.right) c.step_moved.ensures.made
+
+pub step_cut-returns-clause-ok : goal.step_cut-returns-clause-ok
+step_cut-returns-clause-ok g t c =
+    let t' = c.args.table.now in
+    let rule = c.args.rule.now in
+    let at = c.args.at in
+    let s = c.args.states in
+    let w = c.args.worker.now in
+    let m = c.args.memo.now in
+    let r = c.args.r.number in
+    let q = c.args.g.number in
+    let asked = c.requires.asked in
+    let step = c.args.step in
+    let w1 = c.take_told-told.new.worker in
+    let e = c.take_told-told.ensures in
+    let w2 = c.step_moved.new.worker in
+    let m2 = c.step_moved.new.memo in
+    let same : passed_from rule at s (meaning (seen w1) r) (meaning (seen w1) q) ≡ passed_from rule at s (meaning (seen w) r) (meaning (seen w) q) = (λ i. passed_from rule at s (meaning (e.same i) r) (meaning (e.same i) q)) in
+    subst (λ χ. IfOk c.step_moved.result (λ n. IsMeant (seen w2) n.number χ)) same c.step_moved.ensures.ok
+
+pub step_cut-returns-clause-full : goal.step_cut-returns-clause-full
+step_cut-returns-clause-full g t c =
+    let t' = c.args.table.now in
+    let rule = c.args.rule.now in
+    let at = c.args.at in
+    let s = c.args.states in
+    let w = c.args.worker.now in
+    let m = c.args.memo.now in
+    let r = c.args.r.number in
+    let q = c.args.g.number in
+    let asked = c.requires.asked in
+    let step = c.args.step in
+    let w1 = c.take_told-told.new.worker in
+    let e = c.take_told-told.ensures in
+    let w2 = c.step_moved.new.worker in
+    let m2 = c.step_moved.new.memo in
+    let same : passed_from rule at s (meaning (seen w1) r) (meaning (seen w1) q) ≡ passed_from rule at s (meaning (seen w) r) (meaning (seen w) q) = (λ i. passed_from rule at s (meaning (e.same i) r) (meaning (e.same i) q)) in
+    subst (λ χ. IfErr c.step_moved.result (LacksRoomAmong t' (seen w2) χ)) same c.step_moved.ensures.full
+
+pub step_from-returns-then-at-len-clause-made : goal.step_from-returns-then-at-len-clause-made
+step_from-returns-then-at-len-clause-made g t c =
+    let t' = c.args.table.now in
+    let rule = c.args.rule.now in
+    let at = c.args.at in
+    let s = c.args.states in
+    let w = c.args.worker.now in
+    let m = c.args.memo.now in
+    let r = c.args.r.number in
+    let q = c.args.g.number in
+    let asked = c.requires.asked in
+    let e = c.at_end.ensures in
+    made_none t' rule w c.at_end.new.worker m e.worker e.same asked.right
+
+pub step_from-returns-then-at-len-clause-ok : goal.step_from-returns-then-at-len-clause-ok
+step_from-returns-then-at-len-clause-ok g t c =
+    let t' = c.args.table.now in
+    let rule = c.args.rule.now in
+    let at = c.args.at in
+    let s = c.args.states in
+    let w = c.args.worker.now in
+    let m = c.args.memo.now in
+    let r = c.args.r.number in
+    let q = c.args.g.number in
+    let asked = c.requires.asked in
+    let e = c.at_end.ensures in
+    let n = c.at_end.result.number in
+    let φ = meaning (seen w) r in
+    let σ = meaning (seen w) q in
+    let le : length rule.moves.items ≤ at = (let is = c.if-at-len.true in let len = c.len.ensures in omega arith) in
+    subst (λ k. IsMeant k n (passed_from rule at s φ σ)) (sym e.same) (subst (λ moves. IsMeant (seen w) n (passed rule.accepted moves s φ σ)) (sym (drop_all at rule.moves.items le)) e.is)
+
+pub step_moved-step_to-made-requires-2-clause-taken : goal.step_moved-step_to-made-requires-2-clause-taken
+step_moved-step_to-made-requires-2-clause-taken g t c κs within =
+    let t' = c.args.table.now in
+    let rule = c.args.rule.now in
+    let at = c.args.at in
+    let s = c.args.states in
+    let w = c.args.worker.now in
+    let m = c.args.memo.now in
+    let r = c.args.r.number in
+    let q = c.args.g.number in
+    let asked = c.requires.asked in
+    let step = c.args.step in
+    let gl = c.args.told.low.number in
+    let gh = c.args.told.high.number in
+    let w1 = c.step_to-made.new.worker in
+    let made1 = c.step_to-made.ensures.made in
+    (taken_still (seen w) (seen w1) made1.keeps step.told false q gl asked.told c.requires.taken.0, taken_still (seen w) (seen w1) made1.keeps step.told true q gh asked.told c.requires.taken.1)
 
 pub step_from-step_cut-requires : goal.step_from-step_cut-requires
 step_from-step_cut-requires g t c κs within =

@@ -1,5 +1,5 @@
 use Rattle.std.proofs.Common.{◌≡◌, ℕ, Bool, true, false, [], refl, sym, ap, ◌∙◌}
-use Rattle.std.specs.Prelude.{◌&&◌, not}
+use Rattle.std.specs.Prelude.{◌&&◌}
 use Rattle.ja_node_core.specs.Node.{Words, Knows}
 use Rattle.ja_bdd.specs.Functions.{Function}
 use Rattle.ja_bdd.specs.Meaning.{meaning, IsMeant}
@@ -30,26 +30,18 @@ module _ (k : Words) (sound : Sound k) (accepted s : States) (φ σ : Function) 
   gone_meant gone = (knows_constant k false, meaning_constant k sound false ∙ sym (λ i a. not_left (accepts accepted s) (σ (λ v. false)) (φ a) gone i))
 
   rest_meant : accepts accepted s ≡ true → σ (λ v. false) ≡ true → φ ≡ passed accepted [] s φ σ
-  rest_meant open there i a = left (accepts accepted s) (σ (λ v. false)) (φ a) open there i
-
-not_true : (b : Bool) → not b ≡ true → b ≡ false
-not_true false e = refl
-not_true true e = sym e
-
-not_false : (b : Bool) → not b ≡ false → b ≡ true
-not_false true e = refl
-not_false false e = sym e
+  rest_meant may there i a = left (accepts accepted s) (σ (λ v. false)) (φ a) may there i
 
 pub returns-then-not-is_accepted-clause-is : goal.returns-then-not-is_accepted-clause-is
 returns-then-not-is_accepted-clause-is g c =
     let w = c.args.worker.now in
-    none_meant (seen w) (seat_sound w.seat) c.args.rule.now.accepted c.args.states (meaning (seen w) c.args.r.number) (meaning (seen w) c.args.g.number) (sym c.is_accepted.ensures ∙ not_true c.is_accepted.result c.if-not-is_accepted.true)
+    none_meant (seen w) (seat_sound w.seat) c.args.rule.now.accepted c.args.states (meaning (seen w) c.args.r.number) (meaning (seen w) c.args.g.number) (sym c.is_accepted.ensures ∙ c.if-not-is_accepted.true)
 
 pub returns-then-is_true_of_none-clause-is : goal.returns-then-is_true_of_none-clause-is
 returns-then-is_true_of_none-clause-is g c =
     let w = c.args.worker.now in
     (c.requires.known.0, rest_meant (seen w) (seat_sound w.seat) c.args.rule.now.accepted c.args.states (meaning (seen w) c.args.r.number) (meaning (seen w) c.args.g.number)
-        (sym c.is_accepted.ensures ∙ not_false c.is_accepted.result c.if-not-is_accepted.false) (sym c.is_true_of_none.ensures.is ∙ c.if-is_true_of_none.true))
+        (sym c.is_accepted.ensures ∙ c.if-not-is_accepted.false) (sym c.is_true_of_none.ensures.is ∙ c.if-is_true_of_none.true))
 
 pub returns-clause-is : goal.returns-clause-is
 returns-clause-is g c =

@@ -4,7 +4,7 @@ use Rattle.ja_node_table.specs.Seats.{aim_of}
 use Rattle.ja_bdd.specs.Functions.{Function}
 use Rattle.ja_bdd.specs.Meaning.{meaning}
 use Rattle.ja_bdd.specs.Workers.{seen}
-use Rattle.ja_bdd.proofs.Sound.{Sound, seat_sound, meaning_constant}
+use Rattle.ja_bdd.proofs.Sound.{Sound, seat_sound, knows_constant, meaning_constant}
 use Rattle.ja_join.specs.declared.rule.Move.{Move}
 use Rattle.ja_join.specs.Steps.{IsStep, ArePartsAimed, LacksRoomAmong, joint}
 use Rattle.ja_join.proofs.Handing.{joint_true}
@@ -13,6 +13,9 @@ use Rattle.ja_join.proofs.pass.step.Goals as goal
 -- with the constant true, the other function alone is left
 alone : (k : Words) → Sound k → (moves : List Move) (φ : Function) → joint moves φ (meaning k 1) ≡ φ
 alone k sound moves φ = ap (joint moves φ) (meaning_constant k sound true) ∙ joint_true moves φ
+
+pub step_with-requires-clause-known : goal.step_with-requires-clause-known
+step_with-requires-clause-known g c κs within = (c.requires.known, knows_constant (seen c.args.worker.now) true)
 
 pub step_with-requires-clause-aim : goal.step_with-requires-clause-aim
 step_with-requires-clause-aim g c κs within =
