@@ -5,9 +5,6 @@ use ja_base::Memory;
 use ja_join::{Masks, Move, Rule, States};
 use std::alloc::Global;
 
-/// How many slots the frame has.
-pub const SLOTS: u32 = 3;
-
 /// All of these states go on as they are.
 fn go(states: u32) -> Masks {
     Masks {
@@ -20,7 +17,9 @@ fn go(states: u32) -> Masks {
 /// A slot that is kept, and tells which states go on: some where it is false, others where it is true.
 fn told(place: u32, low: u32, high: u32) -> Move {
     Move {
-        place,
+        variable: 4 * place + 1,
+        forgets: false,
+        told: None,
         low_low: go(low),
         low_high: go(0),
         high_low: go(0),
@@ -31,7 +30,9 @@ fn told(place: u32, low: u32, high: u32) -> Move {
 /// A slot that is overwritten: with false where some states go on, with true where others do.
 fn written(place: u32, low: u32, high: u32) -> Move {
     Move {
-        place,
+        variable: 4 * place + 1,
+        forgets: false,
+        told: None,
         low_low: go(low),
         low_high: go(high),
         high_low: go(low),
@@ -43,7 +44,9 @@ fn written(place: u32, low: u32, high: u32) -> Move {
 /// none is true.
 fn one_of(place: u32) -> Move {
     Move {
-        place,
+        variable: 4 * place + 1,
+        forgets: false,
+        told: None,
         low_low: go(3),
         low_high: go(0),
         high_low: go(0),
@@ -57,8 +60,7 @@ fn one_of(place: u32) -> Move {
 
 /// Adds a move behind the others.
 fn add(rule: &mut Rule, step: Move) -> Result<(), Memory> {
-    let behind = rule.moves.iter().all(|before| before.place < step.place);
-    if step.place >= rule.size || !behind {
+    if !rule.may_push(&step) {
         return Err(Memory);
     }
     rule.push(step)
@@ -81,7 +83,7 @@ fn rule_of(alloc: Global, waits: bool, moves: &[Move]) -> Result<Rule, Memory> {
         waiting: 0,
         seen: 3,
     };
-    let mut rule = Rule::new(alloc, SLOTS, start, accepted);
+    let mut rule = Rule::new(alloc, start, accepted);
     for step in moves {
         add(&mut rule, *step)?;
     }
@@ -123,5 +125,5 @@ pub fn none(alloc: Global) -> Rule {
         waiting: 0,
         seen: 1,
     };
-    Rule::new(alloc, SLOTS, states, accepted)
+    Rule::new(alloc, states, accepted)
 }

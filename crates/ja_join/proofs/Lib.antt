@@ -6,3 +6,4 @@ pub mod Aiming
 pub mod Remembering
 pub mod Passing
 pub mod Asking
+pub mod Seeking

@@ -51,15 +51,20 @@ at_set es i e j x at =
 abbrev pub IsRight : Rule → Words → Noted → Type 0
 IsRight rule k e = Knows k e.asked.number × Knows k e.told.number × IsMeant k e.made.number (passed_from rule e.at e.states (meaning k e.asked.number) (meaning k e.told.number))
 
+-- what holds of all that is noted of a call, and of one more answer, holds of all once that is noted
+pub all_noted : (P : Noted → Type 0) (memo memo' : Memo) (e : Noted) → ((j : ℕ) (x : Noted) → slice_get memo.entries.items j ≡ Some x → x.call ≡ memo.call → P x) → P e → memo'.call ≡ memo.call
+    → (memo' ≡ memo) ⊎ ((i : ℕ) × (memo'.entries.items ≡ slice_set memo.entries.items i e)) → (j : ℕ) (x : Noted) → slice_get memo'.entries.items j ≡ Some x → x.call ≡ memo'.call → P x
+all_noted P memo memo' e all is call (inl same) j x at own = all j x (ap (λ (m : Memo). slice_get m.entries.items j) (sym same) ∙ at) (own ∙ call)
+all_noted P memo memo' e all is call (inr (i, same)) j x at own = by_place (at_set memo.entries.items i e j x (ap (λ es. slice_get es j) (sym same) ∙ at))
+  where
+    by_place : (x ≡ e) ⊎ (slice_get memo.entries.items j ≡ Some x) → P x
+    by_place (inl new) = subst P (sym new) is
+    by_place (inr old) = all j x old (own ∙ call)
+
 -- a right answer is noted
 pub right_noted : (rule : Rule) (k : Words) (memo memo' : Memo) (e : Noted) → AreRight rule k memo → IsRight rule k e → memo'.call ≡ memo.call
     → (memo' ≡ memo) ⊎ ((i : ℕ) × (memo'.entries.items ≡ slice_set memo.entries.items i e)) → AreRight rule k memo'
-right_noted rule k memo memo' e right is call (inl same) j x at own = subst (AreRight rule k) (sym same) right j x at own
-right_noted rule k memo memo' e right is call (inr (i, same)) j x at own = by_place (at_set memo.entries.items i e j x (ap (λ es. slice_get es j) (sym same) ∙ at))
-  where
-    by_place : (x ≡ e) ⊎ (slice_get memo.entries.items j ≡ Some x) → IsRight rule k x
-    by_place (inl new) = subst (IsRight rule k) (sym new) is
-    by_place (inr old) = right j x old (own ∙ call)
+right_noted rule k memo memo' e right is call kept = all_noted (IsRight rule k) memo memo' e right is call kept
 
 -- in a call in which nothing was noted, what is noted is right
 pub right_none : (rule : Rule) (k : Words) (memo : Memo) → ((i : ℕ) (e : Noted) → slice_get memo.entries.items i ≡ Some e → e.call ≢ memo.call) → AreRight rule k memo

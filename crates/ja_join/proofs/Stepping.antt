@@ -14,9 +14,9 @@ use Rattle.ja_bdd.proofs.Fixing.{with_own, with_swapped, choice, fixed_free, fre
 use Rattle.ja_join.specs.declared.rule.States.{States}
 use Rattle.ja_join.specs.declared.rule.Masks.{Masks}
 use Rattle.ja_join.specs.declared.rule.Move.{Move}
-use Rattle.ja_join.specs.Ascending.{AscendFrom, IsToldFrom, behind_told, TellFrom}
+use Rattle.ja_join.specs.Ascending.{AscendFrom, IsToldFrom, behind_told, TellFrom, IsToldBefore, Precedes}
 use Rattle.ja_join.specs.Moves.{masks_of, next_by, next_states, truth_after, accepts, IsDead}
-use Rattle.ja_join.specs.Steps.{IsStill, IsForgotten, IsGone, IsToldBefore, IsLow}
+use Rattle.ja_join.specs.Steps.{IsStill, IsForgotten, IsGone, IsLow}
 use Rattle.ja_join.specs.Inner.{stepped, moved_to}
 
 -- a variable before all moves is that of none
@@ -35,11 +35,11 @@ pub ascend_later : (from next : ℕ) (m : Move) (moves : List Move) → AscendFr
 ascend_later from next m moves up le = (le, up.1)
 
 -- a move after all others may follow them
-pub ascend_push : (from : ℕ) (moves : List Move) (m : Move) → AscendFrom from moves → from ≤ m.variable → m.variable ≤ 4094 → All (λ (x : Move). x.variable < m.variable) moves → AscendFrom from (moves ++ m ∷ [])
+pub ascend_push : (from : ℕ) (moves : List Move) (m : Move) → AscendFrom from moves → from ≤ m.variable → m.variable ≤ 4094 → All (λ (x : Move). Precedes x m) moves → AscendFrom from (moves ++ m ∷ [])
 ascend_push from [] m up le small all = (le, (small, tt))
 ascend_push from (x ∷ xs) m up le small all =
-    let before : x.variable < m.variable = All-head (λ (y : Move). y.variable < m.variable) x xs all in
-    (up.0, (up.1.0, ascend_push (x.variable + 1) xs m up.1.1 (omega arith) small (All-tail (λ (y : Move). y.variable < m.variable) x xs all)))
+    let before = (All-head (λ (y : Move). Precedes y m) x xs all).0 in
+    (up.0, (up.1.0, ascend_push (x.variable + 1) xs m up.1.1 (omega arith) small (All-tail (λ (y : Move). Precedes y m) x xs all)))
 
 -- so may one that tells of a variable after all that these tell of
 told_behind : (from : ℕ) (first second : Option ℕ) → IsToldFrom from second → IsToldBefore first second → IsToldFrom (behind_told from first) second
@@ -47,11 +47,11 @@ told_behind from None second later before = later
 told_behind from (Some x) None later before = tt
 told_behind from (Some x) (Some y) later before = (omega arith, later.1)
 
-pub tell_push : (from : ℕ) (moves : List Move) (m : Move) → TellFrom from moves → IsToldFrom from m.told → All (λ (x : Move). IsToldBefore x.told m.told) moves → TellFrom from (moves ++ m ∷ [])
+pub tell_push : (from : ℕ) (moves : List Move) (m : Move) → TellFrom from moves → IsToldFrom from m.told → All (λ (x : Move). Precedes x m) moves → TellFrom from (moves ++ m ∷ [])
 tell_push from [] m up later all = (later, tt)
 tell_push from (x ∷ xs) m up later all =
-    let before : IsToldBefore x.told m.told = All-head (λ (y : Move). IsToldBefore y.told m.told) x xs all in
-    (up.0, tell_push (behind_told from x.told) xs m up.1 (told_behind from x.told m.told later before) (All-tail (λ (y : Move). IsToldBefore y.told m.told) x xs all))
+    let before = (All-head (λ (y : Move). Precedes y m) x xs all).1 in
+    (up.0, tell_push (behind_told from x.told) xs m up.1 (told_behind from x.told m.told later before) (All-tail (λ (y : Move). Precedes y m) x xs all))
 
 -- what is told of from some variable on is told of from an earlier one on
 told_less : (from less : ℕ) (told : Option ℕ) → less ≤ from → IsToldFrom from told → IsToldFrom less told

@@ -1,5 +1,6 @@
 -- Moves in the order of their variables, and of the callee's variables that they tell of.
-use Rattle.std.specs.Prelude.{ℕ, ◌+◌, ◌≤◌, List, [], ◌∷◌, ⊤, Option, Some, None}
+use Rattle.std.specs.Prelude.{ℕ, ◌+◌, ◌<◌, ◌≤◌, List, [], ◌∷◌, ⊤, Option, Some, None}
+use Rattle.std.specs.List.{All}
 use Rattle.std.specs.Coded.{×_prop, Unit-prop, le_prop}
 use Rattle.ja_join.specs.declared.rule.Move.{Move}
 use Rattle.ja_base.specs.Limit.{last_variable}
@@ -34,3 +35,19 @@ IsToldFrom-prop from (Some x) = ×_prop le_prop le_prop
 pub TellFrom-prop : (from : ℕ) (moves : List Move) → IsProp (TellFrom from moves)
 TellFrom-prop from [] = Unit-prop
 TellFrom-prop from (m ∷ moves) = ×_prop (IsToldFrom-prop from m.told) (TellFrom-prop (behind_told from m.told) moves)
+
+-- the first variable that is told of lies before the second, if there are both
+abbrev pub IsToldBefore : (first second : Option ℕ) → Type 0
+IsToldBefore None second = ⊤
+IsToldBefore (Some x) None = ⊤
+IsToldBefore (Some x) (Some y) = x < y
+
+-- a move comes before another
+abbrev pub Precedes : (first second : Move) → Type 0
+Precedes first second = (first.variable < second.variable) × IsToldBefore first.told second.told
+
+-- the move may come behind others
+pub record MayFollow (moves : List Move) (m : Move) : Type 0 where
+  pub small : m.variable ≤ last_variable
+  pub told_small : IsToldFrom 0 m.told
+  pub behind : All (λ (before : Move). Precedes before m) moves

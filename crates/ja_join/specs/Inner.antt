@@ -1,12 +1,12 @@
 -- Words of the private functions: what a step makes from some place on, and what was noted.
-use Rattle.std.specs.Prelude.{◌≡◌, ◌⊎◌, ℕ, ◌<◌, false, ◌&&◌, ◌||◌, Bool, true, List, [], ◌∷◌, Option, Some, None, slice_get, drop}
+use Rattle.std.specs.Prelude.{◌≡◌, ◌≢◌, ◌⊎◌, ℕ, ◌<◌, ◌≤◌, false, ◌&&◌, ◌||◌, Bool, true, List, [], ◌∷◌, Option, Some, None, slice_get, drop}
 use Rattle.ja_node_core.specs.declared.aim.Aim.{Ghosts}
 use Rattle.ja_node_core.specs.Tree.{Tree, Assignment}
 use Rattle.ja_node_core.specs.Node.{Words, Knows}
 use Rattle.ja_node_table.specs.declared.table.NodeTable.{NodeTable}
 use Rattle.ja_bdd.specs.declared.worker.Worker.{Worker}
 use Rattle.ja_bdd.specs.Functions.{Function, with_var, fixed, either, IsFree, IsFrom, IsAimed}
-use Rattle.ja_bdd.specs.Meaning.{meaning, IsMeant, Keeps}
+use Rattle.ja_bdd.specs.Meaning.{meaning, IsMeant, Keeps, IsHalved}
 use Rattle.ja_bdd.specs.Workers.{IsWorkerOf, seen}
 use Rattle.ja_join.specs.declared.rule.States.{States}
 use Rattle.ja_join.specs.declared.rule.Move.{Move}
@@ -95,3 +95,36 @@ module _ {A : Type 0} {G : Ghosts A} (t : NodeTable A) where
     pub worker : IsWorkerOf t new
     pub keeps : Keeps (seen old) (seen new)
     pub right : AreRight rule (seen new) memo
+
+-- both functions are true somewhere, and where the variable is still ahead, it is true there
+abbrev pub IsSought : (ahead : Bool) → (var : ℕ) → (φ σ : Function) → Type 0
+IsSought ahead var φ σ = (a : Assignment) × (ahead ≡ true → a var ≡ true) × (φ a ≡ true) × (σ a ≡ true)
+
+-- how a memo tells both phases of a search apart: before its variable is decided, and after
+abbrev pub phase_of : Bool → ℕ
+phase_of true = 0
+phase_of false = 1
+
+-- what is noted is that some search found nothing
+abbrev pub IsVain : (var : ℕ) → Words → Noted → Type 0
+IsVain var k e = (ahead : Bool) → e.at ≡ phase_of ahead → ¬ IsSought ahead var (meaning k e.asked.number) (meaning k e.told.number)
+
+abbrev pub AreVain : (var : ℕ) → Words → Memo → Type 0
+AreVain var k memo = (i : ℕ) (e : Noted) → slice_get memo.entries.items i ≡ Some e → e.call ≡ memo.call → IsVain var k e
+
+-- two nodes are cut at one variable before which neither looks
+pub record AreCut (k : Words) (v end r c r_low r_high c_low c_high : ℕ) : Type 0 where
+  pub first : IsHalved k v r r_low r_high
+  pub second : IsHalved k v c c_low c_high
+  pub within : v ≤ end
+  pub apart : v < end → (r_low ≢ r_high) ⊎ (c_low ≢ c_high)
+
+-- what a part of a search is asked: known nodes that look at no variable before some one; the variable is not before it where it is still ahead
+pub record IsSeeking {A : Type 0} {G : Ghosts A} (t : NodeTable A) (var : ℕ) (ahead : Bool) (from : ℕ) (w : Worker A G) (memo : Memo) (r c : ℕ) : Type 0 where
+  pub worker : IsWorkerOf t w
+  pub known : Knows (seen w) r
+  pub second : Knows (seen w) c
+  pub later : IsFrom from (meaning (seen w) r)
+  pub second_later : IsFrom from (meaning (seen w) c)
+  pub coming : ahead ≡ true → from ≤ var
+  pub vain : AreVain var (seen w) memo

@@ -1,5 +1,5 @@
 -- What a step of a relation means.
-use Rattle.std.specs.Prelude.{◌≡◌, ◌≢◌, ◌⊎◌, ℕ, ◌<◌, ◌≤◌, ◌==◌, Bool, true, false, List, [], ◌∷◌, ⊤, Option, Some, None, if◌then◌else◌}
+use Rattle.std.specs.Prelude.{◌≡◌, ◌≢◌, ◌⊎◌, ℕ, ◌≤◌, ◌==◌, Bool, true, false, List, [], ◌∷◌, Option, Some, None, if◌then◌else◌}
 use Rattle.ja_node_core.specs.declared.aim.Aim.{Ghosts}
 use Rattle.ja_node_core.specs.Tree.{Tree, Assignment}
 use Rattle.ja_node_core.specs.Node.{Words}
@@ -79,9 +79,3 @@ handed moves σ a = σ (told_by moves a)
 -- a function of the caller's variables and one of the callee's that both hold
 abbrev pub joint : List Move → (φ σ : Function) → Function
 joint moves φ σ = both φ (handed moves σ)
-
--- the first variable that is told of lies before the second, if there are both
-abbrev pub IsToldBefore : (first second : Option ℕ) → Type 0
-IsToldBefore None second = ⊤
-IsToldBefore (Some x) None = ⊤
-IsToldBefore (Some x) (Some y) = x < y

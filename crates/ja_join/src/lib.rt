@@ -7,6 +7,7 @@ mod law;
 mod memo;
 mod pass;
 mod rule;
+mod seek;
 
 pub use compose::{after, looks_in, project};
 pub use ja_bdd::Copies;
@@ -14,3 +15,4 @@ pub use law::{law_composed, law_step};
 pub use memo::Memo;
 pub use pass::{step, step_with};
 pub use rule::{Masks, Move, Rule, States};
+pub use seek::holds_with;

@@ -17,14 +17,19 @@ use ja_node_table::{Full, Node, NodeTable};
 
 /// A node's function, cut at a variable before which it does not look.
 #[derive(Clone, Copy)]
-struct Cut {
-    var: u32,
-    low: Node,
-    high: Node,
+pub(crate) struct Cut {
+    pub(crate) var: u32,
+    pub(crate) low: Node,
+    pub(crate) high: Node,
 }
 
 /// Cuts a known node at its own variable, where that comes before `now`, and else at `now`.
-fn cut_at<A: Aim>(worker: &mut Worker<A>, table: &NodeTable<A>, r: Node, now: u32) -> Cut
+pub(crate) fn cut_at<A: Aim>(
+    worker: &mut Worker<A>,
+    table: &NodeTable<A>,
+    r: Node,
+    now: u32,
+) -> Cut
     requires worker { IsWorkerOf table.now worker.old }
     requires known { Knows (seen worker.old) r.number }
     requires now { now ≤ last_variable }

@@ -1,6 +1,7 @@
-ghost use Rattle.ja_join.specs.Ascending.{AscendFrom, AscendFrom-prop, TellFrom, TellFrom-prop};
+ghost use Rattle.std.specs.Prelude.{IsTrue};
+ghost use Rattle.ja_join.specs.Ascending.{AscendFrom, AscendFrom-prop, IsToldFrom, TellFrom, TellFrom-prop, Precedes};
 
-use ja_base::Memory;
+use ja_base::{MAX_VARIABLES, Memory};
 use std::alloc::Global;
 
 /// Which states of a rule are possible, as bits: those that wait for a true value among several slots,
@@ -48,13 +49,31 @@ pub struct Rule {
     pub ghost telling: { TellFrom 0 moves.items } by { TellFrom-prop 0 moves.items },
 }
 
+/// Whether a variable of a callee, if there is one, is at most 4,094.
+fn is_small(told: Option<u32>) -> bool
+    ensures { IsTrue result → IsToldFrom 0 told }
+{
+    match told {
+        Some(var) => var < MAX_VARIABLES,
+        None => true,
+    }
+}
+
+/// Whether a move comes before another one, and the variable of the callee that it tells of before the
+/// other's, if both tell of one.
+fn precedes(first: &Move, second: &Move) -> bool
+    ensures { IsTrue result → Precedes first.now second.now }
+{
+    let is_told_before = match (first.told, second.told) {
+        (Some(one), Some(other)) => one < other,
+        _ => true,
+    };
+    first.variable < second.variable && is_told_before
+}
+
 impl Rule {
-    ghost use Rattle.std.specs.Prelude.{◌≡◌, ◌≤◌, ◌<◌, ◌++◌, ◌∷◌, [], IfOk, OnOk};
-    ghost use Rattle.std.specs.List.{All};
-    ghost use Rattle.ja_join.specs.declared.rule.Move.{Move};
-    ghost use Rattle.ja_join.specs.Ascending.{IsToldFrom};
-    ghost use Rattle.ja_join.specs.Steps.{IsToldBefore};
-    ghost use Rattle.ja_base.specs.Limit.{last_variable};
+    ghost use Rattle.std.specs.Prelude.{◌≡◌, ◌++◌, ◌∷◌, [], IsTrue, OnOk};
+    ghost use Rattle.ja_join.specs.Ascending.{MayFollow};
 
     /// A rule without a move yet.
     pub fn new(alloc: Global, start: States, accepted: States) -> Rule
@@ -68,13 +87,19 @@ impl Rule {
         }
     }
 
-    /// Adds a move at a variable after those of all other moves, which tells of a variable of the callee,
-    /// at most 4,094, after all that these tell of.
+    /// Whether a move may be added: its variable and the callee's that it tells of, if there is one, are at
+    /// most 4,094 and come after those of all other moves.
+    pub fn may_push(&self, step: &Move) -> bool
+        ensures { IsTrue result → MayFollow self.now.moves.items step.now }
+    {
+        step.variable < MAX_VARIABLES
+            && is_small(step.told)
+            && self.moves.iter().all(|before| precedes(before, step))
+    }
+
+    /// Adds a move behind the others.
     pub fn push(&mut self, step: Move) -> Result<(), Memory>
-        requires inside { step.variable ≤ last_variable }
-        requires after { All (λ (m : Move). m.variable < step.variable) self.old.moves.items }
-        requires small { IsToldFrom 0 step.told }
-        requires told { All (λ (m : Move). IsToldBefore m.told step.told) self.old.moves.items }
+        requires { MayFollow self.old.moves.items step }
         ensures frame { (self.new.start ≡ self.old.start) × (self.new.accepted ≡ self.old.accepted) }
         ensures moves { OnOk result (self.new.moves.items ≡ self.old.moves.items ++ step ∷ []) }
     {
