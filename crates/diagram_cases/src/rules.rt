@@ -115,6 +115,26 @@ pub fn narrow(alloc: Global) -> Result<Rule, Memory> {
     rule_of(alloc, false, &[written(1, 1, 0), told(2, 0, 1)])
 }
 
+/// Slot 1 is handed over as variable 0 of a callee, and is false from then on; slot 2 becomes what the callee
+/// answers, its variable 1, which stands at the next variable of slot 2.
+pub fn call(alloc: Global) -> Result<Rule, Memory> {
+    let handed = Move {
+        told: Some(0),
+        ..written(1, 3, 0)
+    };
+    let answer = Move {
+        variable: 10,
+        forgets: true,
+        told: Some(1),
+        ..told(2, 1, 0)
+    };
+    let answer = Move {
+        high_low: go(2),
+        ..answer
+    };
+    rule_of(alloc, false, &[handed, written(2, 1, 2), answer])
+}
+
 /// Nothing is allowed.
 pub fn none(alloc: Global) -> Rule {
     let states = States {

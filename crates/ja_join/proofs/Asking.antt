@@ -1,6 +1,5 @@
 -- What a part of a pass asks of the next, and what it leaves.
 use Rattle.std.proofs.Common.{◌≡◌, ◌≢◌, ℕ, suc, ◌+◌, ◌<◌, ◌≤◌, Bool, true, false, length, get_or, drop, refl, sym, ap, ◌∙◌, subst, arith, List, ◌∷◌}
-use Rattle.std.specs.Prelude.{Option}
 use Rattle.std.proofs.Math.Seq.{drop-cons}
 use Rattle.std.proofs.lemmas.Bool.{or_left, or_right}
 use mathlib.Core.Logic.{dite}
@@ -24,9 +23,9 @@ use Rattle.ja_join.specs.declared.rule.Rule.{Rule}
 use Rattle.ja_join.specs.declared.memo.Memo.{Memo}
 use Rattle.ja_join.specs.Ascending.{AscendFrom, behind_told, TellFrom}
 use Rattle.ja_join.specs.Moves.{next_states}
-use Rattle.ja_join.specs.Steps.{IsStill, IsGone, IsLow, LacksRoomAmong, joint}
-use Rattle.ja_join.specs.Inner.{stepped, passed, passed_from, moved_to, taken, part_of, parted, IsTaken, IsGoneForBoth, AreAimed, AreRight, IsAsked, IsMade}
-use Rattle.ja_join.proofs.Stepping.{ascend_later, tell_less, low_fixed, from_stepped, kept_stepped, moved_stepped, still_before}
+use Rattle.ja_join.specs.Steps.{IsStill, IsGone, LacksRoomAmong, joint}
+use Rattle.ja_join.specs.Inner.{stepped, passed, passed_from, part_of, parted, IsTaken, IsGoneForBoth, AreAimed, AreRight, IsAsked, IsMade}
+use Rattle.ja_join.proofs.Stepping.{ascend_later, tell_less, from_stepped, kept_stepped, moved_stepped, still_before}
 use Rattle.ja_join.proofs.Handing.{joint_from, joint_kept, joint_taken, taken_known}
 use Rattle.ja_join.proofs.Aiming.{small_low, later_aimed, within_more}
 use Rattle.ja_join.proofs.Passing.{one_more, parted_joint, parted_whole, whole_aimed, kept_child, moved_child, low_child, high_child, both_children, parted_from, kept_within, moved_within, lacks_more}

@@ -1,6 +1,6 @@
 -- A function of the callee's variables as one of the caller's, at the moves that tell of them.
 use Rattle.std.proofs.Common.{◌≡◌, ℕ, zero, suc, ◌+◌, ◌<◌, ◌≤◌, Bool, true, false, refl, sym, ap, ◌∙◌, subst, arith, List, [], ◌∷◌}
-use Rattle.std.specs.Prelude.{◌&&◌, ◌==◌, nat_eq, if◌then◌else◌, Option, Some, None}
+use Rattle.std.specs.Prelude.{◌&&◌, nat_eq, if◌then◌else◌, Option, Some, None}
 use Rattle.std.proofs.lemmas.Bool.{ne_eqb}
 use Rattle.ja_node_core.specs.Tree.{Assignment}
 use Rattle.ja_node_core.specs.Node.{Words, Knows}
@@ -11,7 +11,7 @@ use Rattle.ja_bdd.proofs.Fixing.{with_own, from_fixed, from_op, free_op}
 use Rattle.ja_bdd.proofs.Sound.{Sound, meaning_constant}
 use Rattle.ja_join.specs.declared.rule.Move.{Move}
 use Rattle.ja_join.specs.Ascending.{AscendFrom, IsToldFrom, behind_told, TellFrom}
-use Rattle.ja_join.specs.Steps.{IsStill, IsGone, IsLow, tells, told_by, handed, joint}
+use Rattle.ja_join.specs.Steps.{IsStill, IsLow, tells, told_by, handed, joint}
 use Rattle.ja_join.specs.Inner.{taken, part_of, IsClear, IsTaken}
 use Rattle.ja_join.proofs.Stepping.{still_before}
 

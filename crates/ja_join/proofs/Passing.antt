@@ -1,5 +1,5 @@
 -- What each part of a pass asks of the next.
-use Rattle.std.proofs.Common.{◌≡◌, ◌≢◌, ◌⊎◌, ℕ, suc, ◌+◌, ◌<◌, ◌≤◌, Bool, true, false, refl, sym, ap, ◌∙◌, subst, arith, inl, inr, List, ◌∷◌}
+use Rattle.std.proofs.Common.{◌≡◌, ◌≢◌, ℕ, suc, ◌+◌, ◌≤◌, Bool, true, false, refl, sym, ap, ◌∙◌, subst, arith, inl, inr, List, ◌∷◌}
 use Rattle.std.specs.Prelude.{◌&&◌, ◌||◌, not}
 use Rattle.std.proofs.lemmas.Bool.{or_left, or_right, false≢true}
 use mathlib.Core.Logic.{dite}
@@ -11,13 +11,13 @@ use Rattle.ja_node_table.specs.declared.table.NodeTable.{NodeTable}
 use Rattle.ja_node_table.specs.declared.full.Full.{Full}
 use Rattle.ja_bdd.specs.Functions.{Function, fixed, IsFree, IsFrom, IsAimed}
 use Rattle.ja_bdd.specs.Room.{LacksRoomUnder}
-use Rattle.ja_bdd.proofs.Fixing.{free_fixed, free_still, from_op, free_op, from_fixed}
+use Rattle.ja_bdd.proofs.Fixing.{free_fixed, free_still, from_op, free_op}
 use Rattle.ja_bdd.proofs.Named.{Falls}
 use Rattle.ja_join.specs.declared.rule.States.{States}
 use Rattle.ja_join.specs.declared.rule.Move.{Move}
 use Rattle.ja_join.specs.Ascending.{AscendFrom}
-use Rattle.ja_join.specs.Moves.{truth_after, next_states}
-use Rattle.ja_join.specs.Steps.{IsBelow, IsStill, IsForgotten, IsGone, IsLow, IsWithin, within, LacksRoomAmong, joint}
+use Rattle.ja_join.specs.Moves.{next_states}
+use Rattle.ja_join.specs.Steps.{IsStill, IsGone, IsLow, IsWithin, within, LacksRoomAmong, joint}
 use Rattle.ja_join.specs.Inner.{stepped, passed, moved_to, taken, part_of, parted, IsGoneForBoth, AreAimed}
 use Rattle.ja_join.proofs.Stepping.{still_before, forgotten_later, free_stepped, from_stepped, gone_stepped, low_stepped, low_fixed, moved_below, kept_below, forgot_stepped}
 use Rattle.ja_join.proofs.Handing.{joint_low, joint_from, joint_free, joint_kept, joint_moved}

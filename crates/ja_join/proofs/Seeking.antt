@@ -1,6 +1,5 @@
 -- Where two functions are true is found in their parts.
 use Rattle.std.proofs.Common.{◌≡◌, ◌≢◌, ◌⊎◌, ℕ, zero, suc, ◌+◌, ◌<◌, ◌≤◌, Bool, true, false, refl, sym, ap, ◌∙◌, subst, arith, inl, inr, ⊎_elim}
-use Rattle.std.specs.Prelude.{◌↔◌, IsTrue}
 use Rattle.std.proofs.lemmas.Bool.{false≢true}
 use mathlib.Core.Logic.{dite}
 use native.Mathlib.Decide.{dec_lt}
@@ -12,7 +11,6 @@ use Rattle.ja_bdd.specs.Meaning.{meaning, IsMeant, IsHalved}
 use Rattle.ja_bdd.proofs.Fixing.{with_own, from_fixed}
 use Rattle.ja_bdd.proofs.Named.{tree_above}
 use Rattle.ja_bdd.proofs.Sound.{Sound, IsLow, tree_facts, meaning_tree, meaning_constant}
-use Rattle.ja_bdd.proofs.Parts.{halved_past}
 use Rattle.std.specs.Prelude.{slice_set}
 use Rattle.ja_node_core.specs.declared.aim.Aim.{Ghosts}
 use Rattle.ja_node_table.specs.declared.table.NodeTable.{NodeTable}

@@ -1,16 +1,15 @@
 -- What moves make of a function, cut at a variable.
-use Rattle.std.proofs.Common.{◌≡◌, ◌≢◌, ◌⊎◌, ℕ, ◌+◌, ◌*◌, ◌<◌, ◌≤◌, Bool, true, false, refl, sym, ap, ◌∙◌, subst, arith, inl, inr, ⊎_elim, List, [], ◌∷◌, ◌++◌}
+use Rattle.std.proofs.Common.{◌≡◌, ◌≢◌, ℕ, ◌+◌, ◌<◌, ◌≤◌, Bool, true, false, refl, sym, ap, ◌∙◌, subst, arith, inl, inr, List, [], ◌∷◌, ◌++◌}
 use Rattle.std.specs.List.{All}
 use Rattle.std.proofs.lemmas.List.Elements.{All-head, All-tail}
 use Rattle.std.specs.Prelude.{◌&&◌, ◌||◌, ◌==◌, not, bit_and, bit_or, if◌then◌else◌, Option, Some, None}
 use Rattle.std.specs.Int.Bits.{and_zero_l}
-use Rattle.std.proofs.lemmas.Bool.{false≢true}
 use mathlib.Core.Logic.{dite}
 use native.Mathlib.Decide.{ℕ_discrete}
 use Rattle.ja_node_core.specs.Tree.{Assignment}
 use Rattle.ja_node_core.proofs.Reduced.{with_var_here, with_var_other}
 use Rattle.ja_bdd.specs.Functions.{Function, with_var, fixed, chosen, IsFree, IsFrom}
-use Rattle.ja_bdd.proofs.Fixing.{with_own, with_swapped, choice, fixed_free, free_fixed, free_still}
+use Rattle.ja_bdd.proofs.Fixing.{with_own, with_swapped, choice, fixed_free, free_fixed}
 use Rattle.ja_join.specs.declared.rule.States.{States}
 use Rattle.ja_join.specs.declared.rule.Masks.{Masks}
 use Rattle.ja_join.specs.declared.rule.Move.{Move}

@@ -5,7 +5,7 @@ use Rattle.ja_node_core.specs.Tree.{Tree, Assignment}
 use Rattle.ja_node_core.specs.Node.{Words, Knows}
 use Rattle.ja_node_table.specs.declared.table.NodeTable.{NodeTable}
 use Rattle.ja_bdd.specs.declared.worker.Worker.{Worker}
-use Rattle.ja_bdd.specs.Functions.{Function, with_var, fixed, either, IsFree, IsFrom, IsAimed}
+use Rattle.ja_bdd.specs.Functions.{Function, fixed, either, IsFree, IsFrom, IsAimed}
 use Rattle.ja_bdd.specs.Meaning.{meaning, IsMeant, Keeps, IsHalved}
 use Rattle.ja_bdd.specs.Workers.{IsWorkerOf, seen}
 use Rattle.ja_join.specs.declared.rule.States.{States}

@@ -1,5 +1,5 @@
 -- What is searched for in a relation.
-use Rattle.std.specs.Prelude.{◌≡◌, ℕ, Bool, true}
+use Rattle.std.specs.Prelude.{◌≡◌, ℕ, true}
 use Rattle.ja_node_core.specs.Tree.{Assignment}
 use Rattle.ja_bdd.specs.Functions.{Function}
 

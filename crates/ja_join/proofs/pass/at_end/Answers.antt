@@ -1,6 +1,6 @@
-use Rattle.std.proofs.Common.{◌≡◌, ℕ, Bool, true, false, [], refl, sym, ap, ◌∙◌}
+use Rattle.std.proofs.Common.{◌≡◌, Bool, true, false, [], refl, sym, ◌∙◌}
 use Rattle.std.specs.Prelude.{◌&&◌}
-use Rattle.ja_node_core.specs.Node.{Words, Knows}
+use Rattle.ja_node_core.specs.Node.{Words}
 use Rattle.ja_bdd.specs.Functions.{Function}
 use Rattle.ja_bdd.specs.Meaning.{meaning, IsMeant}
 use Rattle.ja_bdd.specs.Workers.{seen}

@@ -1,4 +1,4 @@
-use Rattle.std.proofs.Common.{◌≤◌, subst}
+use Rattle.std.proofs.Common.{subst}
 use Rattle.ja_join.specs.Ascending.{IsToldFrom}
 use Rattle.ja_join.proofs.pass.take_told.Goals as goal
 

@@ -1,12 +1,9 @@
-use Rattle.std.proofs.Common.{rules, ◌≡◌, ◌⊎◌, ℕ, ◌+◌, ◌<◌, ◌≤◌, Bool, true, false, refl, sym, ap, ◌∙◌, subst, arith, inl, inr, ⊎_elim}
+use Rattle.std.proofs.Common.{rules, ◌+◌, ◌≤◌, true, false, refl, sym, ◌∙◌, subst, arith, ⊎_elim}
 use Rattle.std.proofs.lemmas.Bool.{false≢true}
-use mathlib.Core.Logic.{dite}
-use native.Mathlib.Decide.{dec_le}
 use Rattle.ja_bdd.specs.Meaning.{meaning}
 use Rattle.ja_bdd.specs.Workers.{seen}
 use Rattle.ja_bdd.proofs.Sound.{seat_sound}
-use Rattle.ja_join.specs.Inner.{IsSought, phase_of, IsVain, AreVain, AreCut, IsSeeking}
-use Rattle.ja_join.proofs.Remembering.{all_noted}
+use Rattle.ja_join.specs.Inner.{IsSought, AreVain}
 use Rattle.ja_join.proofs.Seeking.{none_first, none_second, both_true, cut_inside, seeking_same, seeking_cut, seeking_part, vain_noted, found_vain, decided_found, found_decided, low_found, high_found, found_part}
 use Rattle.ja_join.proofs.seek.+seek.Goals as goal
 

@@ -1,4 +1,4 @@
-use Rattle.std.proofs.Common.{suc, ◌<◌, ◌≤◌, inr, subst, arith}
+use Rattle.std.proofs.Common.{inr, subst, arith}
 use Rattle.ja_bdd.specs.Meaning.{IsHalved}
 use Rattle.ja_bdd.specs.Workers.{seen}
 use Rattle.ja_bdd.proofs.Sound.{seat_sound}

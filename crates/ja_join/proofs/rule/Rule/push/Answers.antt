@@ -1,4 +1,4 @@
-use Rattle.std.proofs.Common.{◌≤◌, Bool, true, false, cond, is_ok, List, [], ◌∷◌, ◌++◌, sym, subst, arith}
+use Rattle.std.proofs.Common.{Bool, true, false, cond, is_ok, List, [], ◌∷◌, ◌++◌, sym, subst, arith}
 use Rattle.ja_join.specs.declared.rule.Move.{Move}
 use Rattle.ja_join.specs.Ascending.{AscendFrom, TellFrom, MayFollow}
 use Rattle.ja_join.proofs.Stepping.{ascend_push, tell_push}
