@@ -15,7 +15,9 @@ fn go(states: u32) -> Masks {
 }
 
 /// A slot that is kept, and tells which states go on: some where it is false, others where it is true.
-fn told(place: u32, low: u32, high: u32) -> Move {
+fn told(place: u32, low: u32, high: u32) -> Move
+    requires { place < 3 }
+{
     Move {
         variable: 4 * place + 1,
         forgets: false,
@@ -28,7 +30,9 @@ fn told(place: u32, low: u32, high: u32) -> Move {
 }
 
 /// A slot that is overwritten: with false where some states go on, with true where others do.
-fn written(place: u32, low: u32, high: u32) -> Move {
+fn written(place: u32, low: u32, high: u32) -> Move
+    requires { place < 3 }
+{
     Move {
         variable: 4 * place + 1,
         forgets: false,
@@ -42,7 +46,9 @@ fn written(place: u32, low: u32, high: u32) -> Move {
 
 /// A slot that is kept, one of several: state 0 waits for a true one among them, state 1 goes on where
 /// none is true.
-fn one_of(place: u32) -> Move {
+fn one_of(place: u32) -> Move
+    requires { place < 3 }
+{
     Move {
         variable: 4 * place + 1,
         forgets: false,

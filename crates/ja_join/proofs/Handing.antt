@@ -90,8 +90,11 @@ taken_here k v g lo hi halved = ((halved.low.0, λ a clear. ap (λ (φ : Functio
 
 -- where it is cut before, its part for false stands for it
 pub taken_past : (k : Words) (v x : ℕ) (b : Bool) (g lo hi n : ℕ) → v < x → IsHalved k v g lo hi → IsTaken k (Some x) b lo n → IsTaken k (Some x) b g n
-taken_past k v x b g lo hi n lt halved is = (is.0, λ a clear.
-    is.1 a clear ∙ ap (λ (φ : Function). φ (with_var a x b)) halved.low.1 ∙ ap (meaning k g) (with_own (with_var a x b) v false (with_var_other a x b v (λ e. absurd (omega arith)) ∙ clear v lt)))
+taken_past k v x b g lo hi n lt halved is = (
+  is.0,
+  λ a clear.
+      is.1 a clear ∙ ap (λ (φ : Function). φ (with_var a x b)) halved.low.1 ∙ ap (meaning k g) (with_own (with_var a x b) v false (with_var_other a x b v (λ e. absurd (omega arith)) ∙ clear v lt)),
+)
 
 -- the value of a node where no variable is true
 pub none_constant : (k : Words) → Sound k → (n : ℕ) → n < 2 → nat_eq n 1 ≡ meaning k n (λ v. false)

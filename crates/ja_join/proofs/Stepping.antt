@@ -158,7 +158,7 @@ module _ (accepted : States) where
           ∙ free_stepped moves (next_states m b (truth_after m a) s) (fixed v b φ) v (still_before (v + 1) v moves up.1.1 (omega arith)) (free_fixed v b φ) c a
   forgotten_free w (m ∷ moves) s φ u up (inr there) c a =
       λ i. part false (forgotten_free (v + 1) moves (next_states m false (truth_after m a) s) (fixed v false φ) u up.1.1 there c a) i
-          || part true (forgotten_free (v + 1) moves (next_states m true (truth_after m a) s) (fixed v true φ) u up.1.1 there c a) i
+      || part true (forgotten_free (v + 1) moves (next_states m true (truth_after m a) s) (fixed v true φ) u up.1.1 there c a) i
     where
       v : ℕ
       v = m.variable

@@ -94,13 +94,7 @@ impl Memo {
     }
 
     /// What was answered in this call, if it is noted.
-    pub(crate) fn find(
-        &self,
-        at: usize,
-        states: States,
-        asked: Node,
-        told: Node,
-    ) -> Option<Node>
+    pub(crate) fn find(&self, at: usize, states: States, asked: Node, told: Node) -> Option<Node>
         ensures { IfSome result (λ n. HasNoted self.now at states asked.number told.number n.number) }
     {
         let place = self.place(at, states, asked, told);
@@ -113,14 +107,7 @@ impl Memo {
     }
 
     /// Notes an answer of this call.
-    pub(crate) fn keep(
-        &mut self,
-        at: usize,
-        states: States,
-        asked: Node,
-        told: Node,
-        made: Node,
-    )
+    pub(crate) fn keep(&mut self, at: usize, states: States, asked: Node, told: Node, made: Node)
         ensures call { self.new.call ≡ self.old.call }
         ensures kept { (self.new ≡ self.old) ⊎ ((i : ℕ) × (self.new.entries.items ≡ slice_set self.old.entries.items i record { call = self.old.call; at = at; states = states; asked = asked; told = told; made = made })) }
     {

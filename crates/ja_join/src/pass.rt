@@ -24,12 +24,7 @@ pub(crate) struct Cut {
 }
 
 /// Cuts a known node at its own variable, where that comes before `now`, and else at `now`.
-pub(crate) fn cut_at<A: Aim>(
-    worker: &mut Worker<A>,
-    table: &NodeTable<A>,
-    r: Node,
-    now: u32,
-) -> Cut
+pub(crate) fn cut_at<A: Aim>(worker: &mut Worker<A>, table: &NodeTable<A>, r: Node, now: u32) -> Cut
     requires worker { IsWorkerOf table.now worker.old }
     requires known { Knows (seen worker.old) r.number }
     requires now { now ≤ last_variable }
@@ -258,9 +253,7 @@ fn step_cut<A: Aim>(
             worker, memo, table, rule, at, states, step, r, g, cut, told, false,
         );
     }
-    step_moved(
-        worker, memo, table, rule, at, states, step, r, g, cut, told,
-    )
+    step_moved(worker, memo, table, rule, at, states, step, r, g, cut, told)
 }
 
 /// What the moves make of a node whose first variable comes before the next move's.
@@ -373,12 +366,32 @@ fn step_to<A: Aim>(
 {
     let from = step.variable + 1;
     let kept = states.next(&step, false, after);
-    let first = match step_from(worker, memo, table, rule, at + 1, kept, from, cut.low, told.low) {
+    let first = match step_from(
+        worker,
+        memo,
+        table,
+        rule,
+        at + 1,
+        kept,
+        from,
+        cut.low,
+        told.low,
+    ) {
         Ok(first) => first,
         Err(full) => return Err(full),
     };
     let kept = states.next(&step, true, after);
-    let second = match step_from(worker, memo, table, rule, at + 1, kept, from, cut.high, told.high) {
+    let second = match step_from(
+        worker,
+        memo,
+        table,
+        rule,
+        at + 1,
+        kept,
+        from,
+        cut.high,
+        told.high,
+    ) {
         Ok(second) => second,
         Err(full) => return Err(full),
     };

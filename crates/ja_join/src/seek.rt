@@ -163,13 +163,17 @@ fn seek_parts<A: Aim>(
 {
     let from = cut.var + 1;
     if decides(ahead, cut.var, var) {
-        return seek_from(worker, memo, table, var, false, from, cut.r_high, cut.c_high);
+        return seek_from(
+            worker, memo, table, var, false, from, cut.r_high, cut.c_high,
+        );
     }
     let is_low = seek_from(worker, memo, table, var, ahead, from, cut.r_low, cut.c_low);
     if is_low {
         return true;
     }
-    seek_from(worker, memo, table, var, ahead, from, cut.r_high, cut.c_high)
+    seek_from(
+        worker, memo, table, var, ahead, from, cut.r_high, cut.c_high,
+    )
 }
 
 /// Whether a known relation has a pair in which a variable is true, under a known context: whether both

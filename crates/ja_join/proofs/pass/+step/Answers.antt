@@ -204,7 +204,7 @@ step_cut-returns-then-step-clause-ok g t c =
     let w2 = c.step_to.new.worker in
     let m2 = c.step_to.new.memo in
     let same : parted rule.accepted step (drop (at + 1) rule.moves.items) s false (meaning (seen w1) r) (meaning (seen w1) q) ≡ passed_from rule at s (meaning (seen w) r) (meaning (seen w) q) =
-        ((λ i. parted rule.accepted step (drop (at + 1) rule.moves.items) s false (meaning (e.same i) r) (meaning (e.same i) q)) ∙ forgot_whole rule at s c.args.cut.var step (meaning (seen w) r) (meaning (seen w) q) c.requires.next c.if-step.true asked.ascending) in
+    ((λ i. parted rule.accepted step (drop (at + 1) rule.moves.items) s false (meaning (e.same i) r) (meaning (e.same i) q)) ∙ forgot_whole rule at s c.args.cut.var step (meaning (seen w) r) (meaning (seen w) q) c.requires.next c.if-step.true asked.ascending) in
     subst (λ χ. IfOk c.step_to.result (λ n. IsMeant (seen w2) n.number χ)) same c.step_to.ensures.ok
 
 pub step_cut-returns-then-step-clause-full : goal.step_cut-returns-then-step-clause-full
@@ -224,7 +224,7 @@ step_cut-returns-then-step-clause-full g t c =
     let w2 = c.step_to.new.worker in
     let m2 = c.step_to.new.memo in
     let same : parted rule.accepted step (drop (at + 1) rule.moves.items) s false (meaning (seen w1) r) (meaning (seen w1) q) ≡ passed_from rule at s (meaning (seen w) r) (meaning (seen w) q) =
-        ((λ i. parted rule.accepted step (drop (at + 1) rule.moves.items) s false (meaning (e.same i) r) (meaning (e.same i) q)) ∙ forgot_whole rule at s c.args.cut.var step (meaning (seen w) r) (meaning (seen w) q) c.requires.next c.if-step.true asked.ascending) in
+    ((λ i. parted rule.accepted step (drop (at + 1) rule.moves.items) s false (meaning (e.same i) r) (meaning (e.same i) q)) ∙ forgot_whole rule at s c.args.cut.var step (meaning (seen w) r) (meaning (seen w) q) c.requires.next c.if-step.true asked.ascending) in
     subst (λ χ. IfErr c.step_to.result (LacksRoomAmong t' (seen w2) χ)) same c.step_to.ensures.full
 
 pub step_cut-returns-clause-made : goal.step_cut-returns-clause-made

@@ -39,9 +39,11 @@ returns-then-not-is_accepted-clause-is g c =
 
 pub returns-then-is_true_of_none-clause-is : goal.returns-then-is_true_of_none-clause-is
 returns-then-is_true_of_none-clause-is g c =
-    let w = c.args.worker.now in
-    (c.requires.known.0, rest_meant (seen w) (seat_sound w.seat) c.args.rule.now.accepted c.args.states (meaning (seen w) c.args.r.number) (meaning (seen w) c.args.g.number)
-        (sym c.is_accepted.ensures ∙ c.if-not-is_accepted.false) (sym c.is_true_of_none.ensures.is ∙ c.if-is_true_of_none.true))
+    let w = c.args.worker.now in (
+      c.requires.known.0,
+      rest_meant (seen w) (seat_sound w.seat) c.args.rule.now.accepted c.args.states (meaning (seen w) c.args.r.number) (meaning (seen w) c.args.g.number)
+          (sym c.is_accepted.ensures ∙ c.if-not-is_accepted.false) (sym c.is_true_of_none.ensures.is ∙ c.if-is_true_of_none.true),
+    )
 
 pub returns-clause-is : goal.returns-clause-is
 returns-clause-is g c =

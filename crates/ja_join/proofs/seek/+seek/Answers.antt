@@ -75,7 +75,7 @@ seek_from-seek_parts-found-requires g t c κs within =
     let e = c.cut_both-cut.ensures in
     let both = e.cut in
     let inside : c.args.from ≤ cut.var = cut_inside k sound c.args.from cut.var c.latest.result r d cut.r_low.number cut.r_high.number cut.c_low.number cut.c_high.number var ahead asked.known asked.second asked.later asked.second_later asked.coming c.requires.var c.requires.from
-        c.latest.ensures.var c.latest.ensures.last (c.are_constant.ensures.no c.if-are_constant.false) both in
+    c.latest.ensures.var c.latest.ensures.last (c.are_constant.ensures.no c.if-are_constant.false) both in
     let more = seeking_cut c.args.table.now var ahead c.args.from cut.var c.latest.result w c.cut_both-cut.new.worker m r d cut.r_low.number cut.r_high.number cut.c_low.number cut.c_high.number e.worker e.same both c.latest.ensures.var asked in
     let small : cut.var ≤ 4094 = (let le = both.within in let last = c.latest.ensures.small in omega arith) in
     (omega arith, (within, (search rules, (search rules, (more.0, (more.1, (small, c.requires.var)))))))
@@ -98,7 +98,7 @@ seek_from-returns-then-not-found-clause-vain g t c =
     let is = c.seek_parts-found.ensures.is in
     let none : ¬ IsSought ahead var (meaning k r) (meaning k d) = (λ sought. false≢true (sym c.if-not-found.true ∙ is.1 (subst (λ l. IsSought ahead var (meaning l r) (meaning l d)) (sym e.same) sought))) in
     vain_noted var k m2 c.keep.new.self record { call = m2.call; at = c.phase-then-not-found.result; states = record { waiting = 0; seen = 0 }; asked = c.args.r; told = c.args.c; made = c.args.r } ahead
-        (subst (λ l. AreVain var l m2) e.same c.seek_parts-found.ensures.vain) c.phase-then-not-found.ensures none c.keep.ensures.call c.keep.ensures.kept
+    (subst (λ l. AreVain var l m2) e.same c.seek_parts-found.ensures.vain) c.phase-then-not-found.ensures none c.keep.ensures.call c.keep.ensures.kept
 
 pub seek_from-returns-then-not-found-clause-is : goal.seek_from-returns-then-not-found-clause-is
 seek_from-returns-then-not-found-clause-is g t c =
@@ -179,9 +179,10 @@ seek_parts-returns-then-decides-clause-is g t c =
     let cut = c.args.cut in
     let both = c.requires.cut in
     let yes = c.decides.ensures.yes c.if-decides.true in
-    let is = c.seek_from.ensures.is in
-    (λ found. decided_found k sound var cut.var r d cut.r_low.number cut.r_high.number cut.c_low.number cut.c_high.number both.first both.second ahead yes.1 (is.0 found),
-    λ sought. is.1 (found_decided k sound var cut.var r d cut.r_low.number cut.r_high.number cut.c_low.number cut.c_high.number both.first both.second ahead yes.0 yes.1 sought))
+    let is = c.seek_from.ensures.is in (
+      λ found. decided_found k sound var cut.var r d cut.r_low.number cut.r_high.number cut.c_low.number cut.c_high.number both.first both.second ahead yes.1 (is.0 found),
+      λ sought. is.1 (found_decided k sound var cut.var r d cut.r_low.number cut.r_high.number cut.c_low.number cut.c_high.number both.first both.second ahead yes.0 yes.1 sought),
+    )
 
 pub seek_parts-seek_from-is_low-requires-clause-asked : goal.seek_parts-seek_from-is_low-requires-clause-asked
 seek_parts-seek_from-is_low-requires-clause-asked g t c κs within =
@@ -233,7 +234,7 @@ seek_parts-seek_from-requires-2-clause-asked g t c κs within =
     let m1 = c.seek_from-is_low.new.memo in
     let ne = c.decides.ensures.no c.if-decides.false in
     seeking_same c.args.table.now var ahead (cut.var + 1) w w1 m1 cut.r_high.number cut.c_high.number e.worker e.same
-        (seeking_part c.args.table.now var ahead cut.var w m1 r d cut.r_high.number cut.c_high.number true (λ is. let le = asked.coming is in let apart = ne is in omega arith) asked.worker both.first.from both.second.from both.first.high both.second.high e.vain)
+    (seeking_part c.args.table.now var ahead cut.var w m1 r d cut.r_high.number cut.c_high.number true (λ is. let le = asked.coming is in let apart = ne is in omega arith) asked.worker both.first.from both.second.from both.first.high both.second.high e.vain)
 
 pub seek_parts-returns-clause-vain : goal.seek_parts-returns-clause-vain
 seek_parts-returns-clause-vain g t c =
@@ -273,9 +274,10 @@ seek_parts-returns-clause-is g t c =
     let ne = c.decides.ensures.no c.if-decides.false in
     let rh = cut.r_high.number in
     let dh = cut.c_high.number in
-    let is = c.seek_from-2.ensures.is in
-    (λ yes. high_found k sound var cut.var r d cut.r_low.number rh cut.c_low.number dh both.first both.second ahead ne (subst (λ l. IsSought ahead var (meaning l rh) (meaning l dh)) e.same (is.0 yes)),
-    λ sought. ⊎_elim
-    (λ low. absurd (false≢true (sym c.if-is_low.false ∙ e.is.1 low)))
-    (λ high. is.1 (subst (λ l. IsSought ahead var (meaning l rh) (meaning l dh)) (sym e.same) high))
-    (found_part k sound var cut.var r d cut.r_low.number rh cut.c_low.number dh both.first both.second ahead sought))
+    let is = c.seek_from-2.ensures.is in (
+      λ yes. high_found k sound var cut.var r d cut.r_low.number rh cut.c_low.number dh both.first both.second ahead ne (subst (λ l. IsSought ahead var (meaning l rh) (meaning l dh)) e.same (is.0 yes)),
+      λ sought. ⊎_elim
+          (λ low. absurd (false≢true (sym c.if-is_low.false ∙ e.is.1 low)))
+          (λ high. is.1 (subst (λ l. IsSought ahead var (meaning l rh) (meaning l dh)) (sym e.same) high))
+          (found_part k sound var cut.var r d cut.r_low.number rh cut.c_low.number dh both.first both.second ahead sought),
+    )
