@@ -1,8 +1,6 @@
 -- Lists of nodes that a worker knows.
 use Rattle.std.proofs.Common.{◌≡◌, ℕ, ◌<◌, ◌∷◌, ◌++◌, [], List, length, get_or, Bool, refl, sym, ◌∙◌, subst}
-use Rattle.std.proofs.lemmas.List.Elements.{All-weaker, All-push, All-get_or, All-nil, All-cons, All-pop}
-use Rattle.std.specs.Prelude.{Option, IfSome}
-use Rattle.std.specs.Option.{option_to_list}
+use Rattle.std.proofs.lemmas.List.Elements.{All-weaker, All-push, All-get_or, All-nil, All-cons}
 use Rattle.ja_node_core.specs.Node.{Words, Knows, constant}
 use Rattle.ja_node_core.specs.declared.word.Node.{Node}
 use Rattle.ja_bdd.specs.Functions.{IsFrom}
@@ -25,12 +23,3 @@ known_read k ns i n all lt is = subst (λ (m : Node). Knows k m.number) (sym is)
 
 pub constants_known : (k : Words) (ns : List Node) (f t : Node) → ns ≡ f ∷ t ∷ [] → Knows k f.number → Knows k t.number → AreKnown k ns
 constants_known k ns f t is x y = subst (AreKnown k) (sym is) (All-cons (λ (m : Node). Knows k m.number) f (t ∷ []) x (All-cons (λ (m : Node). Knows k m.number) t [] y (All-nil (λ (m : Node). Knows k m.number))))
-
-pub known_popped : (k : Words) (ns ms : List Node) (r : Option Node) → ns ≡ ms ++ option_to_list r → AreKnown k ns → AreKnown k ms
-known_popped k ns ms r is all = (All-pop (λ (m : Node). Knows k m.number) ns ms r is all).0
-
-pub one_known : (k : Words) (ns : List Node) (n : Node) → ns ≡ n ∷ [] → Knows k n.number → AreKnown k ns
-one_known k ns n is x = subst (AreKnown k) (sym is) (All-cons (λ (m : Node). Knows k m.number) n [] x (All-nil (λ (m : Node). Knows k m.number)))
-
-pub same_pushed : (k : Words) (ns ms : List Node) (n : Node) → ms ≡ ns ++ n ∷ [] → AreKnown k ns → Knows k n.number → AreKnown k ms
-same_pushed k = known_pushed k k (λ n x. (x, refl))

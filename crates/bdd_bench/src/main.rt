@@ -5,25 +5,16 @@
 //! forgets some variables of each. `bdd_bench calls ROUNDS CACHE` composes ROUNDS pairs of these.
 //! CACHE is how many entries the worker's cache has. With the word `sets`, all variables that the
 //! relations of a composition share are forgotten at once, and with `products` in one pass with
-//! the conjunction. `bdd_bench library ROUNDS CACHE` carries ROUNDS relations of 60 slots over a library
-//! call of five arguments, `bdd_bench field ROUNDS CACHE` over a store in a field: in one pass, or, with
-//! the word `composed`, by a composition with the instruction's formula. `bdd_bench texts N CACHE` reads N
-//! texts into locals and passes them to one call, with the word `apart` with all locals before the stack;
-//! its answer counts nodes. Each prints what it came to and how long it took. With any other words it does
+//! the conjunction. Each prints what it came to and how long it took. With any other words it does
 //! a little of each, and prints what they came to.
 #![tactic(auto)]
 
 ghost use Rattle.std.specs.Prelude.{◌≤◌};
 
 mod compose;
-mod composed;
-mod count;
 mod failure;
-mod formula;
 mod identity;
 mod pool;
-mod rules;
-mod steps;
 mod taint;
 
 use compose::Forgetting;
@@ -34,12 +25,10 @@ use ja_bdd::MAX_ENTRIES;
 use ja_node_core::AnyAim;
 use ja_node_table::NodeTable;
 use pool::Pool;
-use rules::Instruction;
 use std::alloc::Global;
 use std::rt::{Clock, Env};
 use std::time::{Duration, Instant};
 use std::{env, io};
-use steps::{Way, same, steps, texts};
 use taint::{calls, taint};
 
 /// How many nodes the table has room for.
@@ -56,9 +45,6 @@ enum Work {
     Identity,
     Taint,
     Calls,
-    Steps(Instruction),
-    Same(Instruction),
-    Texts,
 }
 
 /// What is done, how often, and by what means.
@@ -66,8 +52,6 @@ enum Work {
 struct Asked {
     work: Work,
     forgetting: Forgetting,
-    way: Way,
-    apart: bool,
     rounds: u64,
     entries: u64,
 }
@@ -76,8 +60,6 @@ struct Asked {
 fn asked_work<R: Env + AllocGlobal>(rt: &R) -> io::Result<Option<Asked>> {
     let mut work = None;
     let mut forgetting = Forgetting::Singly;
-    let mut way = Way::OnePass;
-    let mut apart = false;
     let mut rounds = None;
     let mut entries = LITTLE_CACHE;
     for word in env::args(rt)?.skip(1) {
@@ -85,11 +67,6 @@ fn asked_work<R: Env + AllocGlobal>(rt: &R) -> io::Result<Option<Asked>> {
             "identity" => work = Some(Work::Identity),
             "taint" => work = Some(Work::Taint),
             "calls" => work = Some(Work::Calls),
-            "library" => work = Some(Work::Steps(Instruction::Library)),
-            "field" => work = Some(Work::Steps(Instruction::Field)),
-            "texts" => work = Some(Work::Texts),
-            "composed" => way = Way::Composed,
-            "apart" => apart = true,
             "sets" => forgetting = Forgetting::AtOnce,
             "products" => forgetting = Forgetting::InProduct,
             number if rounds.is_none() => rounds = number.parse::<u64>().ok(),
@@ -100,8 +77,6 @@ fn asked_work<R: Env + AllocGlobal>(rt: &R) -> io::Result<Option<Asked>> {
         work.zip(rounds).map(|(work, rounds)| Asked {
             work,
             forgetting,
-            way,
-            apart,
             rounds,
             entries,
         }),
@@ -125,22 +100,6 @@ fn measure<R: Clock>(
         Work::Identity => identity(&mut pool, &table, asked.forgetting, asked.rounds)?,
         Work::Taint => taint(&mut pool, &table, asked.rounds)?,
         Work::Calls => calls(&mut pool, &table, asked.forgetting, asked.rounds)?,
-        Work::Steps(instruction) => {
-            return steps(
-                rt,
-                alloc,
-                &mut pool,
-                &table,
-                asked.way,
-                instruction,
-                asked.rounds,
-            );
-        }
-        Work::Same(instruction) => same(rt, alloc, &mut pool, &table, instruction)?,
-        Work::Texts => {
-            let count = asked.rounds.min(30) as u32;
-            texts(rt, alloc, &mut pool, &table, count, asked.apart)?
-        }
     };
     Ok((answer, start.elapsed(rt)?))
 }
@@ -164,8 +123,6 @@ fn main(rt: HostRuntime) -> io::Result<()> {
     let little = |work, forgetting| Asked {
         work,
         forgetting,
-        way: Way::OnePass,
-        apart: false,
         rounds: 2,
         entries: LITTLE_CACHE,
     };
@@ -174,8 +131,6 @@ fn main(rt: HostRuntime) -> io::Result<()> {
         little(Work::Identity, Forgetting::AtOnce),
         little(Work::Identity, Forgetting::InProduct),
         little(Work::Taint, Forgetting::Singly),
-        little(Work::Same(Instruction::Library), Forgetting::Singly),
-        little(Work::Same(Instruction::Field), Forgetting::Singly),
     ] {
         match measure(&rt, rt.alloc(), LITTLE_ROOM, asked) {
             Ok((answer, _)) => println!(rt; "answer {answer}")?,

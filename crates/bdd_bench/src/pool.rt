@@ -4,21 +4,14 @@ ghost use Rattle.ja_bdd.specs.Meaning.{Keeps};
 ghost use Rattle.ja_bdd.specs.Workers.{IsWorkerOf, seen};
 ghost use Rattle.ja_base.specs.Limit.{last_variable};
 
-use crate::composed::composed;
 use crate::failure::Failure;
 use ja_bdd::{Copies, MAX_ENTRIES, Worker};
-use ja_join::{Memo, Rule, step};
 use ja_node_core::AnyAim;
 use ja_node_table::{Node, NodeSeat, NodeTable};
 use std::alloc::Global;
-use std::rt::Clock;
-use std::time::{Duration, Instant};
 
 /// How many slots the relations have, each of four copies.
 pub const SLOTS: u32 = 64;
-
-/// The place of the constant false.
-pub const FALSE: usize = 0;
 
 /// The place of the constant true.
 pub const TRUE: usize = 1;
@@ -47,7 +40,7 @@ pub enum Step {
 pub fn ask(
     table: &NodeTable<AnyAim>,
     worker: &mut Worker<AnyAim>,
-    asked: Step,
+    step: Step,
     f: Node,
     g: Node,
 ) -> Option<Node>
@@ -57,7 +50,7 @@ pub fn ask(
     ensures keeps { Keeps (seen worker.old) (seen worker.new) }
     ensures known { IfSome result (λ n. Knows (seen worker.new) n.number) }
 {
-    match asked {
+    match step {
         Step::And => worker.and(table, f, g).ok(),
         Step::Or => worker.or(table, f, g).ok(),
         Step::Exists(var) => worker.exists(table, f, var).ok(),
@@ -169,7 +162,7 @@ impl Pool {
     pub fn step(
         &mut self,
         table: &NodeTable<AnyAim>,
-        asked: Step,
+        step: Step,
         f: usize,
         g: usize,
     ) -> Result<usize, Failure>
@@ -178,51 +171,10 @@ impl Pool {
     {
         let f = self.node(f)?;
         let g = self.node(g)?;
-        let Some(made) = ask(table, &mut self.worker, asked, f, g) else {
+        let Some(made) = ask(table, &mut self.worker, step, f, g) else {
             return Err(Failure::NoRoom);
         };
         self.nodes.push(made)?;
         Ok(self.nodes.len() - 1)
-    }
-
-    /// What a rule makes of a node, by its place. Answers also how long that took.
-    pub fn stepped<R: Clock>(
-        &mut self,
-        rt: &R,
-        table: &NodeTable<AnyAim>,
-        memo: &mut Memo,
-        rule: &Rule,
-        r: usize,
-    ) -> Result<(usize, Duration), Failure>
-        requires { IsReady table.now self.old }
-        ensures { OnOk result (IsReady table.now self.new) }
-    {
-        let r = self.node(r)?;
-        let start = Instant::now(rt)?;
-        let Ok(made) = step(&mut self.worker, memo, table, rule, r) else {
-            return Err(Failure::NoRoom);
-        };
-        let time = start.elapsed(rt)?;
-        self.nodes.push(made)?;
-        Ok((self.nodes.len() - 1, time))
-    }
-
-    /// Composes two relations. Answers the place of what was made, and how long that took.
-    pub fn composed<R: Clock>(
-        &mut self,
-        rt: &R,
-        table: &NodeTable<AnyAim>,
-        f: usize,
-        g: usize,
-    ) -> Result<(usize, Duration), Failure>
-        requires { IsReady table.now self.old }
-        ensures { OnOk result (IsReady table.now self.new) }
-    {
-        let f = self.node(f)?;
-        let g = self.node(g)?;
-        let both = composed(rt, table, &mut self.worker, f, g)?;
-        let (made, time) = both;
-        self.nodes.push(made)?;
-        Ok((self.nodes.len() - 1, time))
     }
 }

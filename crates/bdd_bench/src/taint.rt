@@ -23,7 +23,7 @@ const FORGOTTEN: u32 = 10;
 /// The last variable of a diagram.
 const LAST: u32 = MAX_VARIABLES - 1;
 
-pub fn next_random(random: u64) -> u64 {
+fn next_random(random: u64) -> u64 {
     random
         .wrapping_mul(0x5851_f42d_4c95_7f2d)
         .wrapping_add(0x1405_7b7e_f767_814f)
