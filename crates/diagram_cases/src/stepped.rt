@@ -5,7 +5,7 @@ ghost use Rattle.ja_node_core.specs.Node.{Knows};
 ghost use Rattle.ja_bdd.specs.Workers.{IsWorkerOf, seen};
 
 use crate::pool::{Pool, Step};
-use crate::rules::{copy, guess, mix, mix_before, narrow, none};
+use crate::rules::{call, copy, guess, mix, mix_before, narrow, none};
 use ja_base::Memory;
 use ja_bdd::Copies;
 use ja_join::{Memo, Rule};
@@ -241,10 +241,30 @@ fn add_projected(out: &mut String, alloc: Global) -> Result<(), Memory> {
     )?)
 }
 
+/// Adds what a call makes whose callee answers its argument, and where its answer may be true.
+fn add_call(out: &mut String, alloc: Global) -> Result<(), Memory> {
+    let (table, seat) = NodeTable::new(alloc, 65536, AnyAim)?;
+    let mut pool = Pool::new(alloc, &table, seat)?;
+    let mut memo = Memo::new(alloc, 1024)?;
+    let start = kept(&mut pool, &table, [1, 5, 9], [0, 4, 8])?;
+    let answers = same(&mut pool, &table, 0, 1)?;
+    let made = pool.stepped_with(&table, &mut memo, &call(alloc)?, start, answers)?;
+    add_relation(out, &mut pool, &table, "call", made)?;
+    let given = pool.step(&table, Step::Literal(0, true), 0, 0)?;
+    let some = pool.holds(&table, &mut memo, made, given, 9)?;
+    let clean = pool.step(&table, Step::Literal(4, false), 0, 0)?;
+    let none = pool.holds(&table, &mut memo, made, clean, 9)?;
+    Ok(writeln!(
+        out,
+        "an answer may be true {some}, of a false argument {none}"
+    )?)
+}
+
 /// Adds what rules make of relations.
 pub fn add_steps(out: &mut String, alloc: Global) -> Result<(), Memory> {
     add_rules(out, alloc)?;
     add_chain(out, alloc)?;
     add_composed(out, alloc)?;
-    add_projected(out, alloc)
+    add_projected(out, alloc)?;
+    add_call(out, alloc)
 }
