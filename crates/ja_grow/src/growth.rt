@@ -27,7 +27,14 @@ pub struct Growth<A: Aim> {
 
 impl<A: Aim> Growth<A> {
     /// Makes the node that an old one became, and keeps it.
-    fn finish(&mut self, table: &NodeTable<A>, n: Node, var: u32, low: Node, high: Node) -> Result<Node, Full<A>>
+    fn finish(
+        &mut self,
+        table: &NodeTable<A>,
+        n: Node,
+        var: u32,
+        low: Node,
+        high: Node,
+    ) -> Result<Node, Full<A>>
         requires worker { IsWorkerOf table.now self.old.worker }
         requires var { var ≤ last_variable }
         requires known { Knows (seen self.old.worker) low.number × Knows (seen self.old.worker) high.number }
