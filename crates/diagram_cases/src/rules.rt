@@ -97,27 +97,27 @@ fn rule_of(alloc: Global, waits: bool, moves: &[Move]) -> Result<Rule, Memory> {
 }
 
 /// Slot 1 becomes what slot 0 is.
-pub fn copy(alloc: Global) -> Result<Rule, Memory> {
+fn copy(alloc: Global) -> Result<Rule, Memory> {
     rule_of(alloc, false, &[told(0, 1, 2), written(1, 1, 2)])
 }
 
 /// Slot 2 becomes true where slot 0 or slot 1 is, else false.
-pub fn mix(alloc: Global) -> Result<Rule, Memory> {
+fn mix(alloc: Global) -> Result<Rule, Memory> {
     rule_of(alloc, true, &[one_of(0), one_of(1), written(2, 2, 1)])
 }
 
 /// Slot 0 becomes true where slot 1 or slot 2 is, else false: what it becomes is told before they are.
-pub fn mix_before(alloc: Global) -> Result<Rule, Memory> {
+fn mix_before(alloc: Global) -> Result<Rule, Memory> {
     rule_of(alloc, true, &[written(0, 2, 1), one_of(1), one_of(2)])
 }
 
 /// Slot 1 becomes anything.
-pub fn guess(alloc: Global) -> Result<Rule, Memory> {
+fn guess(alloc: Global) -> Result<Rule, Memory> {
     rule_of(alloc, false, &[written(1, 1, 1)])
 }
 
 /// Slot 2 stays, where it is true and slot 1 becomes false; nothing else is allowed.
-pub fn narrow(alloc: Global) -> Result<Rule, Memory> {
+fn narrow(alloc: Global) -> Result<Rule, Memory> {
     rule_of(alloc, false, &[written(1, 1, 0), told(2, 0, 1)])
 }
 
@@ -142,7 +142,7 @@ pub fn call(alloc: Global) -> Result<Rule, Memory> {
 }
 
 /// Nothing is allowed.
-pub fn none(alloc: Global) -> Rule {
+fn none(alloc: Global) -> Rule {
     let states = States {
         waiting: 1,
         seen: 0,
@@ -152,4 +152,41 @@ pub fn none(alloc: Global) -> Rule {
         seen: 1,
     };
     Rule::new(alloc, states, accepted)
+}
+
+/// A rule by its name.
+#[derive(Clone, Copy)]
+pub enum RuleName {
+    Copy,
+    Mix,
+    MixBefore,
+    Guess,
+    Narrow,
+    Nothing,
+}
+
+impl RuleName {
+    /// The name as it prints.
+    pub fn text(self) -> &'static str {
+        match self {
+            RuleName::Copy => "copy",
+            RuleName::Mix => "mix",
+            RuleName::MixBefore => "mix before",
+            RuleName::Guess => "guess",
+            RuleName::Narrow => "narrow",
+            RuleName::Nothing => "none",
+        }
+    }
+
+    /// The rule.
+    pub fn rule(self, alloc: Global) -> Result<Rule, Memory> {
+        match self {
+            RuleName::Copy => copy(alloc),
+            RuleName::Mix => mix(alloc),
+            RuleName::MixBefore => mix_before(alloc),
+            RuleName::Guess => guess(alloc),
+            RuleName::Narrow => narrow(alloc),
+            RuleName::Nothing => Ok(none(alloc)),
+        }
+    }
 }

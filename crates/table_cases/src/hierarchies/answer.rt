@@ -1,9 +1,9 @@
 //! Questions and their answers.
 ghost use Rattle.std.specs.Prelude.{◌<◌, length, IfOk, IfSome};
 
-use crate::asked::{Asked, question_of};
-use crate::range::add_range;
-use crate::shown::{FieldText, MethodText};
+use crate::hierarchies::asked::{Asked, question_of};
+use crate::hierarchies::range::add_range;
+use crate::hierarchies::shown::{FieldText, MethodText};
 use ja_base::{ClassId, Memory, Name};
 use ja_hier::Hier;
 use ja_ir::MethodAt;

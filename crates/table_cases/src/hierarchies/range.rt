@@ -1,10 +1,10 @@
 //! Questions of many classes at once.
 ghost use Rattle.std.specs.Prelude.{◌<◌, length};
 
-use crate::answer::class_of;
-use crate::asked::{Asked, question_of};
-use crate::shown::{FieldText, MethodText};
-use crate::words::{number, numbered};
+use crate::hierarchies::answer::class_of;
+use crate::hierarchies::asked::{Asked, question_of};
+use crate::hierarchies::shown::{FieldText, MethodText};
+use crate::hierarchies::words::{number, numbered};
 use ja_base::{ClassId, Memory};
 use ja_hier::{FieldAt, Hier};
 use ja_ir::MethodAt;

@@ -1,9 +1,7 @@
-//! Asks a real directory and real streams, and prints what each answers.
+//! A real directory and real streams, and what each answers.
 //!
 //! No clause says what a directory holds, or which bytes reach a stream, so it is said by the stored input and
-//! output. The input says how its lines are read; each line that asks something is printed with its answer.
-#![tactic(auto)]
-
+//! output. Each line that asks something is printed with its answer.
 mod directory;
 mod stream;
 
@@ -47,12 +45,12 @@ fn tell(rt: &HostRuntime, folder: &mut DirFolder<&HostRuntime>, line: &str) -> i
     println!(rt; "{answer}")
 }
 
-fn main(rt: HostRuntime) -> io::Result<()> {
-    let text = io::read_to_string(rt.alloc(), rt.reader())?;
-    let mut folder = DirFolder::new(&rt);
-    for line in text.as_str().lines() {
+/// Prints each line of a text that asks something, with its answer.
+pub fn print_answers(rt: &HostRuntime, text: &str) -> io::Result<()> {
+    let mut folder = DirFolder::new(rt);
+    for line in text.lines() {
         if !line.starts_with('#') {
-            tell(&rt, &mut folder, line)?;
+            tell(rt, &mut folder, line)?;
         }
     }
     Ok(())

@@ -1,5 +1,5 @@
 //! The classes that lines spell.
-use crate::words::{hexadecimal, number, numbered, word};
+use crate::hierarchies::words::{hexadecimal, number, numbered, word};
 use case_text::words_of;
 use ja_base::{Memory, Name, Names, Seq};
 use ja_ir::{ClassHead, HeadField, HeadFields, HeadMethod, HeadMethods};

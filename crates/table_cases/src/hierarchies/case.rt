@@ -1,18 +1,18 @@
 //! One hierarchy with its questions.
-use crate::answer::add_answer;
-use crate::head::heads_of;
+use crate::hierarchies::answer::add_answer;
+use crate::hierarchies::head::heads_of;
 use case_text::words_of;
 use ja_base::Memory;
 use ja_hier::{Hier, HierFault, hierarchy, is_numbered};
 use ja_ir::ClassHead;
 use std::alloc::{AllocError, Global};
 
-/// The title of a case and what comes of it, as lines.
-pub fn case_text(alloc: Global, case: &str) -> Result<String, Memory> {
+/// Adds the title of a case and what comes of it, as lines.
+pub fn add_text(out: &mut String, alloc: Global, case: &str) -> Result<(), Memory> {
     let lines = lines_of(alloc, case)?;
     match lines.as_slice() {
-        [title, lines @ ..] => titled(alloc, title, lines),
-        [] => Ok(String::new(alloc)),
+        [title, lines @ ..] => add_titled(out, alloc, title, lines),
+        [] => Ok(()),
     }
 }
 
@@ -27,11 +27,10 @@ fn lines_of<'a>(alloc: Global, case: &'a str) -> Result<Vec<&'a str>, AllocError
     Ok(lines)
 }
 
-/// The title of a case and what comes of its other lines.
-fn titled(alloc: Global, title: &str, lines: &[&str]) -> Result<String, Memory> {
-    let mut out = format!(in alloc; "{title}\n")?;
-    add_case(&mut out, alloc, lines)?;
-    Ok(out)
+/// Adds the title of a case and what comes of its other lines.
+fn add_titled(out: &mut String, alloc: Global, title: &str, lines: &[&str]) -> Result<(), Memory> {
+    writeln!(out, "== {title}")?;
+    add_case(out, alloc, lines)
 }
 
 /// Adds what comes of the lines of a case.
