@@ -50,6 +50,7 @@ fn functions_text<R: Threads + Sync>(rt: &R, alloc: Global) -> Result<String, Me
         Part::Chain,
         Part::Composed,
         Part::Projected,
+        Part::Called,
     ] {
         add_part(&mut out, alloc, part)?;
     }

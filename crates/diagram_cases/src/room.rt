@@ -8,7 +8,7 @@ use crate::joined::add_joined;
 use crate::large::{add_chains, add_kept};
 use crate::pool::Pool;
 use crate::random::add_random;
-use crate::stepped::{add_chain, add_composed, add_projected, add_rules};
+use crate::stepped::{add_call, add_chain, add_composed, add_projected, add_rules};
 use ja_base::Memory;
 use ja_join::Memo;
 use ja_node_core::AnyAim;
@@ -30,6 +30,8 @@ pub enum Part {
     Chain,
     Composed,
     Projected,
+    /// A call with a summary of its callee.
+    Called,
 }
 
 /// How many entries the memo of a part has: one where rules follow each other.
@@ -70,5 +72,6 @@ fn add_told(
         Part::Chain => add_chain(out, alloc, pool, table, memo),
         Part::Composed => add_composed(out, alloc, pool, table, memo),
         Part::Projected => add_projected(out, alloc, pool, table, memo),
+        Part::Called => add_call(out, alloc, pool, table, memo),
     }
 }

@@ -123,7 +123,7 @@ fn narrow(alloc: Global) -> Result<Rule, Memory> {
 
 /// Slot 1 is handed over as variable 0 of a callee, and is false from then on; slot 2 becomes what the callee
 /// answers, its variable 1, which stands at the next variable of slot 2.
-pub fn call(alloc: Global) -> Result<Rule, Memory> {
+fn call(alloc: Global) -> Result<Rule, Memory> {
     let handed = Move {
         told: Some(0),
         ..written(1, 3, 0)
@@ -163,6 +163,7 @@ pub enum RuleName {
     Guess,
     Narrow,
     Nothing,
+    Call,
 }
 
 impl RuleName {
@@ -175,6 +176,7 @@ impl RuleName {
             RuleName::Guess => "guess",
             RuleName::Narrow => "narrow",
             RuleName::Nothing => "none",
+            RuleName::Call => "call",
         }
     }
 
@@ -187,6 +189,7 @@ impl RuleName {
             RuleName::Guess => guess(alloc),
             RuleName::Narrow => narrow(alloc),
             RuleName::Nothing => Ok(none(alloc)),
+            RuleName::Call => call(alloc),
         }
     }
 }

@@ -5,7 +5,6 @@ ghost use Rattle.ja_node_core.specs.Node.{Knows};
 ghost use Rattle.ja_bdd.specs.Workers.{IsWorkerOf, seen};
 
 use crate::pool::{Pool, Step};
-use crate::rules::{call, copy, guess, mix, mix_before, narrow, none};
 use crate::rules::RuleName;
 use ja_base::Memory;
 use ja_bdd::Copies;
@@ -282,29 +281,26 @@ pub fn add_projected(
 }
 
 /// Adds what a call makes whose callee answers its argument, and where its answer may be true.
-fn add_call(out: &mut String, alloc: Global) -> Result<(), Memory> {
-    let (table, seat) = NodeTable::new(alloc, 65536, AnyAim)?;
-    let mut pool = Pool::new(alloc, &table, seat)?;
-    let mut memo = Memo::new(alloc, 1024)?;
-    let start = kept(&mut pool, &table, [1, 5, 9], [0, 4, 8])?;
-    let answers = same(&mut pool, &table, 0, 1)?;
-    let made = pool.stepped_with(&table, &mut memo, &call(alloc)?, start, answers)?;
-    add_relation(out, &mut pool, &table, "call", made)?;
-    let given = pool.step(&table, Step::Literal(0, true), 0, 0)?;
-    let some = pool.holds(&table, &mut memo, made, given, 9)?;
-    let clean = pool.step(&table, Step::Literal(4, false), 0, 0)?;
-    let none = pool.holds(&table, &mut memo, made, clean, 9)?;
+pub fn add_call(
+    out: &mut String,
+    alloc: Global,
+    pool: &mut Pool,
+    table: &NodeTable<AnyAim>,
+    memo: &mut Memo,
+) -> Result<(), Memory>
+    requires { IsWorkerOf table.now pool.old.worker × All (λ n. Knows (seen pool.old.worker) n.number) pool.old.nodes.items }
+{
+    let start = kept(pool, table, [1, 5, 9], [0, 4, 8])?;
+    let answers = same(pool, table, 0, 1)?;
+    let rule = RuleName::Call.rule(alloc)?;
+    let made = pool.stepped_with(table, memo, &rule, start, answers)?;
+    add_relation(out, pool, table, RuleName::Call.text(), made)?;
+    let given = pool.step(table, Step::Literal(0, true), 0, 0)?;
+    let some = pool.holds(table, memo, made, given, 9)?;
+    let clean = pool.step(table, Step::Literal(4, false), 0, 0)?;
+    let none = pool.holds(table, memo, made, clean, 9)?;
     Ok(writeln!(
         out,
         "an answer may be true {some}, of a false argument {none}"
     )?)
-}
-
-/// Adds what rules make of relations.
-pub fn add_steps(out: &mut String, alloc: Global) -> Result<(), Memory> {
-    add_rules(out, alloc)?;
-    add_chain(out, alloc)?;
-    add_composed(out, alloc)?;
-    add_projected(out, alloc)?;
-    add_call(out, alloc)
 }
