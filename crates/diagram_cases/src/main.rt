@@ -11,11 +11,13 @@ mod nodes;
 mod pool;
 mod random;
 mod renamed;
+mod room;
 mod rules;
 mod stepped;
 mod threads;
 
 use ja_base::Memory;
+use room::{Part, add_part};
 use std::alloc::Global;
 use std::io;
 use std::thread::Threads;
@@ -38,12 +40,20 @@ fn functions_text<R: Threads + Sync>(rt: &R, alloc: Global) -> Result<String, Me
     nodes::add_parts(&mut out, alloc)?;
     nodes::add_largest(&mut out, alloc)?;
     nodes::add_threads(&mut out, rt, alloc)?;
-    joined::add_joined(&mut out, alloc)?;
+    add_part(&mut out, alloc, Part::Joined)?;
     renamed::add_renamed(&mut out, alloc)?;
-    random::add_random(&mut out, alloc)?;
-    large::add_chains(&mut out, alloc)?;
-    large::add_kept(&mut out, alloc)?;
-    stepped::add_steps(&mut out, alloc)?;
+    for part in [
+        Part::Random,
+        Part::Chains,
+        Part::Kept,
+        Part::Rules,
+        Part::Chain,
+        Part::Composed,
+        Part::Projected,
+        Part::Called,
+    ] {
+        add_part(&mut out, alloc, part)?;
+    }
     threads::add_workers(&mut out, rt, alloc)?;
     Ok(out)
 }
