@@ -1,0 +1,2 @@
+//! The network of class sets, solved: it tells exactly the least set of facts under the rules of the program.
+#![tactic(auto)]
