@@ -1,0 +1,7 @@
+use Rattle.ja_blocks.proofs.holders.holders_of.Goals as goal
+
+pub loop-field-init : goal.loop-field-init
+loop-field-init c = ?
+
+pub loop-field-preserved : goal.loop-field-preserved
+loop-field-preserved c = ?

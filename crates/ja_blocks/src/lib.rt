@@ -1,0 +1,13 @@
+//! What the solver of taint asks of a program in each round, made once: its blocks in order, and which of them read what.
+#![tactic(auto)]
+
+mod blocks;
+mod holders;
+mod law;
+mod layout;
+mod note;
+mod readers;
+
+pub use blocks::{ProgramBlock, ProgramBlocks};
+pub use law::law_readers;
+pub use layout::{Layout, layout_of};
