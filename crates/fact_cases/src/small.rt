@@ -4,6 +4,7 @@ use ja_base::{ClassId, Memory, Name, NumbersByName, Seq};
 use ja_bytes::method_desc;
 use ja_facts::param_count;
 use ja_ir::Method;
+use ja_matrix::Matrix;
 use ja_sets::{PairSet, TokenSet};
 use std::alloc::Global;
 
@@ -21,6 +22,11 @@ pub fn small_text(alloc: Global, text: &str) -> Result<String, Memory> {
                 write!(out, "{line}:")?;
                 let pair = (number_of(first), number_of(second));
                 add_pair(&mut out, alloc, number_of(size), pair)?;
+            }
+            ["rows", columns, first, second] => {
+                write!(out, "{line}:")?;
+                let pair = (number_of(first), number_of(second));
+                add_rows(&mut out, alloc, number_of(columns), pair)?;
             }
             ["names", noted @ .., asked] => {
                 write!(out, "{line}:")?;
@@ -58,6 +64,20 @@ fn add_pair(out: &mut String, alloc: Global, size: u32, pair: (u32, u32)) -> Res
         return Ok(writeln!(out, " too large")?);
     }
     Ok(writeln!(out, " added {}", pairs.add(pair))?)
+}
+
+/// Adds whether a pair is new in an empty table of two rows, and what joining its row with the other one
+/// says and does.
+fn add_rows(out: &mut String, alloc: Global, columns: u32, pair: (u32, u32)) -> Result<(), Memory> {
+    let mut table = Matrix::new(alloc, 2, columns)?;
+    let other = Matrix::new(alloc, 2, columns)?;
+    if pair.0 >= 2 || pair.1 >= columns {
+        return Ok(writeln!(out, " too large")?);
+    }
+    let added = table.add(pair.0, pair.1);
+    let joined = table.join_row(pair.0, &other, 0);
+    let there = table.has(pair.0, pair.1);
+    Ok(writeln!(out, " added {added}, joined {joined}, there {there}")?)
 }
 
 /// Adds the numbers of a name, where each word `NAME=NUMBER` notes one.

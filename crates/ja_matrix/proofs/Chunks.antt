@@ -1,5 +1,5 @@
 -- The rows of a table, as words that lie in a longer list.
-use Rattle.std.proofs.Common.{◌≡◌, ◌≢◌, ℕ, zero, suc, ◌+◌, ◌-◌, ◌*◌, ◌/◌, ◌%◌, ◌^◌, ◌<◌, ◌≤◌, ◌⊎◌, ◌↔◌, Bool, true, false, ◌==◌, IsTrue, List, [], ◌∷◌, length, get_or, set, take, drop, replicate, min, bit_or, bit_and, refl, ap, sym, subst, ◌∙◌, inl, inr, arith}
+use Rattle.std.proofs.Common.{◌≡◌, ◌≢◌, ℕ, zero, suc, ◌+◌, ◌-◌, ◌*◌, ◌/◌, ◌%◌, ◌^◌, ◌<◌, ◌≤◌, ◌⊎◌, Bool, true, false, ◌==◌, List, [], length, get_or, set, drop, replicate, min, bit_or, bit_and, refl, ap, sym, subst, ◌∙◌, inl, inr, arith}
 use Rattle.std.proofs.Math.Nat.{mul-le-mul_right}
 use Rattle.std.proofs.lemmas.Nat.{mul-add-lt, pow_pos}
 use Rattle.std.proofs.lemmas.List.{ext_get_or, get_or-set_same, get_or-set_other, get_or_past, get_or_default, get_or-take, get_or-drop, length-take, length-drop}
@@ -12,7 +12,7 @@ use Rattle.ja_sets.specs.InnerWords.{flags, bit_of, IsTidy, JoinsWords, GainsBit
 use Rattle.ja_sets.proofs.Flags.{length-flags, flags-at, word-there, shift-read}
 use Rattle.ja_sets.proofs.Members.{get_or-copies}
 use Rattle.ja_matrix.specs.Matrices.{IsTable, KeepsShape}
-use Rattle.ja_matrix.specs.InnerChunks.{width, chunk, rows_from, table, IsStored, IsOutside, JoinsPiece, KeepsPiece, ChangesPiece}
+use Rattle.ja_matrix.specs.InnerChunks.{width, chunk, rows_from, table, IsStored, IsOutside, JoinsPiece, ChangesPiece}
 
 length-rows_from : (columns a count : ℕ) (words : List ℕ) → length (rows_from columns a count words) ≡ count
 length-rows_from columns a zero words = refl

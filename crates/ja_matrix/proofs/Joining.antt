@@ -1,5 +1,5 @@
 -- A row that is joined with a row of another table.
-use Rattle.std.proofs.Common.{◌≡◌, ◌≢◌, ℕ, zero, suc, ◌+◌, ◌*◌, ◌/◌, ◌%◌, ◌^◌, ◌<◌, ◌≤◌, ◌⊎◌, ◌↔◌, Bool, true, false, ◌==◌, ◌&&◌, IsTrue, List, [], ◌∷◌, length, get_or, set, min, not, bit_or, bit_and, refl, ap, sym, subst, ◌∙◌, inl, inr, arith}
+use Rattle.std.proofs.Common.{◌≡◌, ◌≢◌, ℕ, zero, suc, ◌+◌, ◌*◌, ◌/◌, ◌%◌, ◌^◌, ◌<◌, ◌≤◌, ◌⊎◌, ◌↔◌, Bool, true, false, ◌==◌, IsTrue, List, [], ◌∷◌, length, get_or, set, min, not, bit_or, bit_and, refl, ap, sym, subst, ◌∙◌, inl, inr, arith}
 use Rattle.std.specs.Int.{bit_at}
 use Rattle.std.specs.Int.Bits.{and_zero_r}
 use Rattle.std.proofs.lemmas.Nat.{and_le_l, same_from_place}
@@ -7,14 +7,14 @@ use Rattle.std.proofs.lemmas.Nat.Bits.{bit_at_and, bit_at-lt}
 use Rattle.std.proofs.lemmas.List.{ext_get_or, get_or-set_same, get_or-set_other, get_or_past}
 use Rattle.std.proofs.Math.ListN.{length-set}
 use Rattle.std.proofs.lemmas.Bool.{cases_eq, cases_lt}
-use Rattle.ja_sets.specs.Sets.{Has, Adds, union, HasPair, Lacks}
+use Rattle.ja_sets.specs.Sets.{Has, Adds, union, Lacks}
 use Rattle.ja_sets.specs.InnerWords.{flags, bit_of, IsTidy, JoinsWords}
 use Rattle.ja_sets.proofs.Values.{length-union, union-changes}
 use Rattle.ja_sets.proofs.Members.{Has-set, Has-union_iff}
 use Rattle.ja_sets.proofs.Flags.{length-flags, flags-at, word-there, joined-tidy, joined-flags, joined-adds, with_bit, with_bit-tidy, with_bit-flags, set-changes, lacks-iff}
-use Rattle.ja_matrix.specs.Matrices.{IsTable, KeepsShape, Gains}
-use Rattle.ja_matrix.specs.InnerChunks.{width, chunk, table, IsStored, IsOutside, JoinsPiece, KeepsPiece, ChangesPiece}
-use Rattle.ja_matrix.proofs.Chunks.{chunk-at, length-chunk, same-length, same-chunk, outside-chunk, joins-chunk, gains-chunk, row, row-size, inside, inside-row, full, room, place-there, stored-with, table-with}
+use Rattle.ja_matrix.specs.Matrices.{KeepsShape, Gains}
+use Rattle.ja_matrix.specs.InnerChunks.{width, chunk, table, IsStored, IsOutside, KeepsPiece, ChangesPiece}
+use Rattle.ja_matrix.proofs.Chunks.{chunk-at, length-chunk, same-length, same-chunk, outside-chunk, gains-chunk, row, row-size, inside, inside-row, full, room, place-there, stored-with, table-with}
 use Rattle.ja_matrix.proofs.Rows.{row-gains, row-keeps}
 
 is-true : (r : Bool) → (r ≡ false → ⊥) → IsTrue r
@@ -115,7 +115,10 @@ tidy-both len xs ys tx ty =
     }
 
 one-both : (p q : ℕ) → p < 2 → q < 2 → ((min p q == 1) ≡ true) ↔ (((p == 1) ≡ true) × ((q == 1) ≡ true))
-one-both zero q hp hq = (λ h. absurd (cc h), λ h. absurd (cc (h.0)))
+one-both zero q hp hq = (
+  λ h. let none : min 0 q ≡ 0 = omega arith in absurd (cc (h, ap (λ v. v == 1) none)),
+  λ h. absurd (cc (h.0)),
+)
 one-both (suc zero) zero hp hq = (λ h. absurd (cc h), λ h. absurd (cc (h.1)))
 one-both (suc zero) (suc zero) hp hq = (λ h. (refl, refl), λ h. refl)
 one-both (suc zero) (suc (suc q)) hp hq = absurd (omega arith)
@@ -141,7 +144,7 @@ Has-both len xs ys b h = elim (cases_lt b len) [
 pub keeps-chunk : (count to from : ℕ) (old others kept new : List ℕ) → length (chunk count to old) ≡ count → length (chunk count from others) ≡ length (chunk count 0 kept) → KeepsPiece old (to * count) others (from * count) kept count new
     → JoinsWords (chunk count to old) (both (chunk count from others) (chunk count 0 kept)) (chunk count to new)
 keeps-chunk count to from old others kept new filled same keeps =
-    let long : length (chunk count to new) ≡ length (chunk count to old) = omega arith in
+    let long : length (chunk count to new) ≡ length (chunk count to old) = same-length count to old new keeps.outside.same_length in
     record {
       same_length = long;
       each = λ k below. let h : k < count = omega (arith, below, filled) in

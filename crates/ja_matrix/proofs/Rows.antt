@@ -1,10 +1,10 @@
 -- What rows that were joined have.
-use Rattle.std.proofs.Common.{◌≡◌, ◌≢◌, ℕ, ◌<◌, ◌⊎◌, ◌↔◌, Bool, true, false, List, [], length, get_or, set, refl, ap, sym, subst, ◌∙◌, inl, inr}
-use Rattle.std.proofs.lemmas.List.{get_or-set_same, get_or-set_other, get_or_past}
+use Rattle.std.proofs.Common.{◌≡◌, ℕ, ◌<◌, ◌⊎◌, ◌↔◌, Bool, List, [], length, get_or, set, ap, sym, subst, ◌∙◌, inl, inr}
+use Rattle.std.proofs.lemmas.List.{get_or-set_same, get_or-set_other}
 use Rattle.std.proofs.Math.ListN.{length-set}
 use Rattle.std.proofs.lemmas.Bool.{cases_eq}
-use Rattle.ja_sets.specs.Sets.{Has, HasPair}
-use Rattle.ja_matrix.specs.Matrices.{IsTable, KeepsShape, Gains}
+use Rattle.ja_sets.specs.Sets.{Has}
+use Rattle.ja_matrix.specs.Matrices.{KeepsShape, Gains}
 
 -- a table in which one row gained what Q says
 pub row-gains : (old : List (List Bool)) (to : ℕ) (new : List Bool) (Q : ℕ → Type 0) → to < length old → ((b : ℕ) → Has new b ↔ (Has (get_or old to []) b ⊎ Q b)) → Gains old (set old to new) (λ a b. (a ≡ to) × Q b)

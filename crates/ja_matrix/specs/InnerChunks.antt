@@ -1,5 +1,5 @@
 -- How the rows of a table lie in words, one after another.
-use Rattle.std.specs.Prelude.{◌≡◌, ◌⊎◌, ℕ, zero, suc, ◌+◌, ◌*◌, ◌/◌, ◌^◌, ◌<◌, ◌≤◌, Bool, List, [], ◌∷◌, length, slice_index, take, drop, bit_or, bit_and}
+use Rattle.std.specs.Prelude.{◌≡◌, ℕ, zero, suc, ◌+◌, ◌*◌, ◌/◌, ◌^◌, ◌<◌, ◌≤◌, Bool, List, [], ◌∷◌, length, slice_index, take, drop, bit_or, bit_and}
 use Rattle.ja_sets.specs.InnerWords.{flags, IsTidy}
 
 -- the number of words that hold so many bits

@@ -1,5 +1,5 @@
 -- Tables of truth values as sets of pairs: of a row and of a column.
-use Rattle.std.specs.Prelude.{◌≡◌, ◌⊎◌, ◌↔◌, ℕ, ◌<◌, Bool, List, [], Contains, length, slice_index_or}
+use Rattle.std.specs.Prelude.{◌≡◌, ◌⊎◌, ◌↔◌, ℕ, ◌<◌, Bool, List, [], length, slice_index_or}
 use Rattle.ja_sets.specs.Sets.{Has, Lacks, HasPair}
 
 -- there are so many rows, each with so many columns

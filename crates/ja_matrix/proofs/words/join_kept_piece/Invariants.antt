@@ -1,4 +1,4 @@
-use Rattle.std.proofs.Common.{◌≡◌, ℕ, ◌+◌, ◌<◌, ◌≤◌, true, false, length, get_or, bit_or, bit_and}
+use Rattle.std.proofs.Common.{◌≡◌, ℕ, ◌+◌, ◌<◌, ◌≤◌, true, false, get_or, bit_or, bit_and}
 use Rattle.ja_matrix.proofs.words.join_kept_piece.Given as goal
 
 abbrev pub invariant-loop-k : goal.invariant-loop-k

@@ -1,4 +1,4 @@
-use Rattle.std.proofs.Common.{◌∙◌, ◌+◌, ◌*◌, ◌/◌, sym}
+use Rattle.std.proofs.Common.{◌∙◌, ◌+◌, ◌*◌, ◌/◌}
 use Rattle.std.proofs.lemmas.List.{get_or_default}
 use Rattle.ja_sets.proofs.Flags.{one-bit}
 use Rattle.ja_matrix.specs.InnerChunks.{width}

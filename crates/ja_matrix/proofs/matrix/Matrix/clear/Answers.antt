@@ -1,9 +1,8 @@
-use Rattle.std.proofs.Common.{◌∙◌, ◌≡◌, ℕ, List, ⊥, ap, sym, subst, length, drop}
+use Rattle.std.proofs.Common.{◌∙◌, ℕ, List, ap, sym, subst, length, drop}
 use Rattle.ja_sets.specs.Sets.{HasPair}
 use Rattle.ja_sets.proofs.Flags.{written}
-use Rattle.ja_matrix.specs.Matrices.{IsTable, KeepsShape}
 use Rattle.ja_matrix.specs.InnerChunks.{table}
-use Rattle.ja_matrix.proofs.Chunks.{no-pairs, same-shape, stored-zeros}
+use Rattle.ja_matrix.proofs.Chunks.{no-pairs, same-shape}
 use Rattle.ja_matrix.proofs.matrix.Matrix.clear.Goals as goal
 
 pub returns-clause-empty : goal.returns-clause-empty

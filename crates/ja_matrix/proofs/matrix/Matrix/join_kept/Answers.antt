@@ -1,9 +1,9 @@
-use Rattle.std.proofs.Common.{◌∙◌, ◌≡◌, ◌<◌, ◌*◌, ◌+◌, ◌≤◌, ◌⊎◌, ◌↔◌, inl, inr, ℕ, Bool, List, [], get_or, ap, sym, subst, refl, length, drop, arith}
+use Rattle.std.proofs.Common.{◌∙◌, ◌≡◌, ◌<◌, ◌*◌, ◌↔◌, inl, inr, ℕ, Bool, List, [], get_or, ap, sym, subst, refl, length, drop, arith}
 use Rattle.ja_sets.specs.InnerWords.{flags, IsTidy}
 use Rattle.ja_sets.specs.Sets.{Has, Adds, HasPair}
 use Rattle.ja_sets.proofs.Flags.{written}
 use Rattle.ja_matrix.specs.Matrices.{KeepsShape, Gains, AddsKept}
-use Rattle.ja_matrix.specs.InnerChunks.{width, chunk, table, IsStored, KeepsPiece}
+use Rattle.ja_matrix.specs.InnerChunks.{width, chunk, table, KeepsPiece}
 use Rattle.ja_matrix.proofs.Chunks.{inside, full, room}
 use Rattle.ja_matrix.proofs.Joining.{room-other, tidy-other, row-other, both, tidy-both, Has-both, keeps-chunk, joined-stored, joined-gains, joined-keeps, joined-changed}
 use Rattle.ja_matrix.proofs.matrix.Matrix.join_kept.Goals as goal
@@ -75,8 +75,8 @@ returns-clause-changed c =
     let second : IsTidy c.self.inside.columns (chunk (width c.self.inside.columns) 0 c.kept.inside.words.items) = tidy-other c.self.inside.rows c.self.inside.columns c.self.inside.words.items c.args.self.now c.self.invariant c.self.view_is c.kept.inside.rows c.kept.inside.columns c.kept.inside.words.items c.args.kept.now c.kept.invariant c.kept.view_is c.args.to 0 c.requires.row c.requires.kept c.requires.kept_columns in
     let words = keeps-chunk (width c.self.inside.columns) c.args.to c.args.from c.self.inside.words.items c.other.inside.words.items c.kept.inside.words.items c.join_kept_piece.new.words (full c.self.inside.rows c.self.inside.columns c.self.inside.words.items c.args.self.now c.self.invariant c.self.view_is c.args.to there) (first.enough ∙ sym second.enough) keeps in
     let told = joined-changed c.self.inside.rows c.self.inside.columns c.self.inside.words.items c.args.self.now c.self.invariant c.self.view_is c.args.to c.requires.row (both (chunk (width c.self.inside.columns) c.args.from c.other.inside.words.items) (chunk (width c.self.inside.columns) 0 c.kept.inside.words.items)) (flags c.self.inside.columns (both (chunk (width c.self.inside.columns) c.args.from c.other.inside.words.items) (chunk (width c.self.inside.columns) 0 c.kept.inside.words.items))) (tidy-both c.self.inside.columns (chunk (width c.self.inside.columns) c.args.from c.other.inside.words.items) (chunk (width c.self.inside.columns) 0 c.kept.inside.words.items) first second) refl c.join_kept_piece.new.words keeps.outside words c.join_kept_piece.result
-        (rw (c.width_of-count.ensures, c.as_mut_slice.ensures.value) at c.join_kept_piece.ensures.changed)
-        (rw c.as_mut_slice.ensures.value at c.join_kept_piece.ensures.unchanged) in
+    (rw (c.width_of-count.ensures, c.as_mut_slice.ensures.value) at c.join_kept_piece.ensures.changed)
+    (rw c.as_mut_slice.ensures.value at c.join_kept_piece.ensures.unchanged) in
     let same = adds (get_or c.args.self.now c.args.to []) (get_or c.args.other.now c.args.from []) (get_or c.args.kept.now 0 []) (flags c.self.inside.columns (both (chunk (width c.self.inside.columns) c.args.from c.other.inside.words.items) (chunk (width c.self.inside.columns) 0 c.kept.inside.words.items)))
-        (λ b. rw (row-other c.self.inside.rows c.self.inside.columns c.self.inside.words.items c.args.self.now c.self.invariant c.self.view_is c.other.inside.rows c.other.inside.columns c.other.inside.words.items c.args.other.now c.other.invariant c.other.view_is c.args.to c.args.from c.requires.row c.requires.other c.requires.columns, row-other c.self.inside.rows c.self.inside.columns c.self.inside.words.items c.args.self.now c.self.invariant c.self.view_is c.kept.inside.rows c.kept.inside.columns c.kept.inside.words.items c.args.kept.now c.kept.invariant c.kept.view_is c.args.to 0 c.requires.row c.requires.kept c.requires.kept_columns) (Has-both c.self.inside.columns (chunk (width c.self.inside.columns) c.args.from c.other.inside.words.items) (chunk (width c.self.inside.columns) 0 c.kept.inside.words.items) b (first.enough ∙ sym second.enough))) in
+    (λ b. rw (row-other c.self.inside.rows c.self.inside.columns c.self.inside.words.items c.args.self.now c.self.invariant c.self.view_is c.other.inside.rows c.other.inside.columns c.other.inside.words.items c.args.other.now c.other.invariant c.other.view_is c.args.to c.args.from c.requires.row c.requires.other c.requires.columns, row-other c.self.inside.rows c.self.inside.columns c.self.inside.words.items c.args.self.now c.self.invariant c.self.view_is c.kept.inside.rows c.kept.inside.columns c.kept.inside.words.items c.args.kept.now c.kept.invariant c.kept.view_is c.args.to 0 c.requires.row c.requires.kept c.requires.kept_columns) (Has-both c.self.inside.columns (chunk (width c.self.inside.columns) c.args.from c.other.inside.words.items) (chunk (width c.self.inside.columns) 0 c.kept.inside.words.items) b (first.enough ∙ sym second.enough))) in
     (λ t. same.0 (told.0 t), λ more. told.1 (same.1 more))

@@ -1,7 +1,7 @@
-use Rattle.std.proofs.Common.{◌∙◌, ◌≡◌, ◌<◌, ◌*◌, ℕ, Bool, List, [], IsTrue, false, get_or, ap, sym, subst, length, drop}
+use Rattle.std.proofs.Common.{◌∙◌, ◌≡◌, ◌<◌, ◌*◌, ℕ, List, [], get_or, ap, sym, subst, length, drop}
 use Rattle.ja_sets.proofs.Flags.{written}
 use Rattle.ja_matrix.specs.Matrices.{KeepsShape, Gains}
-use Rattle.ja_matrix.specs.InnerChunks.{width, chunk, table, IsStored, JoinsPiece, ChangesPiece}
+use Rattle.ja_matrix.specs.InnerChunks.{width, chunk, table, JoinsPiece}
 use Rattle.ja_sets.specs.Sets.{HasPair}
 use Rattle.ja_matrix.proofs.Chunks.{inside, full, room, joins-chunk}
 use Rattle.ja_matrix.proofs.Joining.{room-other, tidy-other, row-other, joined-stored, joined-gains, joined-keeps, joined-changed}

@@ -1,4 +1,4 @@
-use Rattle.std.proofs.Common.{◌≡◌, ◌+◌, ◌*◌, ◌/◌, replicate, rules}
+use Rattle.std.proofs.Common.{◌≡◌, ◌*◌, replicate, rules}
 use Rattle.ja_matrix.proofs.Chunks.{no-pairs, shaped, zero-copies}
 use Rattle.ja_matrix.proofs.matrix.Matrix.new.Goals as goal
 
