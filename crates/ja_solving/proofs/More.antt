@@ -4,7 +4,7 @@ use Rattle.std.specs.Prelude.{Contains, slice_get}
 use Rattle.std.proofs.lemmas.Bool.{cases_lt, cases_eq}
 use Rattle.std.proofs.lemmas.List.{take_more, take_all, get_or_past}
 use Rattle.std.proofs.lemmas.List.Elements.{Contains-append_left, Contains-push, Contains-push_cases}
-use Rattle.std.proofs.lemmas.Option.{slice_get_within, slice_get_cases, get_or_from_slice_get, none-some}
+use Rattle.std.proofs.lemmas.Option.{slice_get_within, slice_get_cases, slice_get-get_or, get_or_from_slice_get, none-some}
 use Rattle.ja_sets.specs.Sets.{Has, Lacks, IsNext, HasNoneFrom}
 use Rattle.ja_ir.specs.declared.program.Parts.{Parts}
 use Rattle.ja_facts.specs.ClassTables.{token_count}
@@ -125,6 +125,13 @@ says-next p told i c at f = (
   ],
 )
 
+-- one constraint of a list after those before it
+pub told-next : (p : Parts) (old mid new : Network) (told : List Constraint) (i : ℕ) (d : Constraint) → i < length told → Extends old mid (OneSays p (take i told))
+    → Extends mid new (Says p (get_or told i d)) → Extends old new (OneSays p (take (i + 1) told))
+told-next p old mid new told i d lt x y =
+    extends-more old mid new (OneSays p (take i told)) (Says p (get_or told i d)) (OneSays p (take (i + 1) told)) x y
+    (says-next p told i (get_or told i d) (slice_get-get_or told i d lt))
+
 -- ---- a set of tokens, one after another
 
 not_both : {A : Type 0} (set : List Bool) (t : ℕ) → Has set t → Lacks set t → A
@@ -174,12 +181,12 @@ module _ (p : Parts) (names : Names) (set : List Bool) (a : Action) where
 
 -- a copy goes to the other cell, all tokens at once
 pub copies-all : (p : Parts) (names : Names) (set : List Bool) (to : Cell) → length set ≡ token_count p → (f : Fact) → IsIn to (Has set) f ↔ FiresAll p names (Has set) (Copy to) f
-copies-all p names set to size (ItHappens e) = (λ h. absurd h, λ all. absurd (told_token all.0 all.2))
+copies-all p names set to size (ItHappens event) = (λ h. absurd h, λ all. absurd (told_token all.0 all.2))
   where
-    told_token : (t : ℕ) → OneSays p (fires p names t (Copy to)) (ItHappens e) → ⊥
+    told_token : (t : ℕ) → OneSays p (fires p names t (Copy to)) (ItHappens event) → ⊥
     told_token t (c, inside, says) = elim (Contains-push_cases [] (constraints.Has to t) c inside) [
       | inl no_one ↦ none-inside c no_one
-      | inr e ↦ let h = subst (λ (x : Constraint). Says p x (ItHappens e)) (sym e) says in absurd (cc h.0)
+      | inr is ↦ let h = subst (λ (x : Constraint). Says p x (ItHappens event)) (sym is) says in absurd (cc h.0)
     ]
 copies-all p names set to size (HasToken d t) = (
   λ h. (t, h.1, (constraints.Has to t, Contains-push [] (constraints.Has to t), (ap (λ (x : Cell). HasToken x t) h.0, within h.1))),

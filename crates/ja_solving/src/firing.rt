@@ -7,7 +7,7 @@ ghost use Rattle.ja_firing.specs.Tokens.{fires};
 ghost use Rattle.ja_solving.specs.Rules.{OneSays};
 ghost use Rattle.ja_solving.specs.InnerWorking.{FiresAll, FiresEach, FiresAt};
 
-use crate::telling::{clear, tell_all};
+use crate::telling::{clear, tell_all, token_count};
 use ja_base::Memory;
 use ja_cells::Names;
 use ja_constraints::Constraints;
@@ -58,6 +58,8 @@ fn fire_each(
     ensures network { OnOk result (IsNetwork net.new) }
     ensures extends { OnOk result (Extends net.old net.new (FiresAll p.now names.now (Has set.now) action)) }
 {
+    // Tokens are numbered by a u32, and so the place behind one is a u32 too.
+    let _count = token_count(p);
     let mut from = 0;
     'tokens: while let Some(token) = set.next_from(from) {
         fire(alloc, told, p, names, classes, net, token, action)?;
