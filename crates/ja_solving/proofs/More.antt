@@ -1,5 +1,5 @@
 -- A network that tells more and more: one constraint after another, one token after another, one link after another.
-use Rattle.std.proofs.Common.{◌≡◌, ◌⊎◌, ◌↔◌, inl, inr, ℕ, zero, suc, ◌+◌, ◌<◌, ◌≤◌, Bool, false, List, [], ◌∷◌, ◌++◌, Some, None, length, take, get_or, refl, sym, ap, subst, ◌∙◌, true≢false, arith}
+use Rattle.std.proofs.Common.{◌≡◌, ◌⊎◌, ◌↔◌, inl, inr, ℕ, zero, suc, ◌+◌, ◌<◌, Bool, false, List, [], ◌∷◌, ◌++◌, Some, None, length, take, get_or, refl, sym, ap, subst, ◌∙◌, true≢false, arith}
 use Rattle.std.specs.Prelude.{Contains, slice_get}
 use Rattle.std.proofs.lemmas.Bool.{cases_lt, cases_eq}
 use Rattle.std.proofs.lemmas.List.{take_more, take_all, get_or_past}
@@ -200,11 +200,11 @@ copies-all p names set to size (HasToken d t) = (
     told_token u member (c, inside, says) = elim (Contains-push_cases [] (constraints.Has to u) c inside) [
       | inl no_one ↦ absurd (none-inside c no_one)
       | inr e ↦
-        let h = subst (λ (x : Constraint). Says p x (HasToken d t)) (sym e) says in
-        let is = h.0 in
-        let same_cell : d ≡ to = cc is in
-        let same_token : u ≡ t = cc is in
-        (same_cell, subst (Has set) same_token member)
+          let h = subst (λ (x : Constraint). Says p x (HasToken d t)) (sym e) says in
+          let is = h.0 in
+          let same_cell : d ≡ to = cc is in
+          let same_token : u ≡ t = cc is in
+          (same_cell, subst (Has set) same_token member)
     ]
 
 -- ---- the links of a cell, one after another

@@ -1,5 +1,5 @@
 -- A network that is worked on stays one that is; where everything has been worked on, it is solved.
-use Rattle.std.proofs.Common.{◌≡◌, ◌⊎◌, ◌↔◌, inl, inr, ℕ, Bool, List, [], ◌∷◌, Some, take, refl, sym, ap, subst, ◌∙◌}
+use Rattle.std.proofs.Common.{◌≡◌, ◌⊎◌, ◌↔◌, inl, inr, ℕ, Bool, List, [], ◌∷◌, Some, sym, subst, ◌∙◌}
 use Rattle.std.specs.Prelude.{Contains, slice_get}
 use Rattle.std.proofs.lemmas.Option.{same_Some}
 use Rattle.ja_sets.specs.Sets.{Has}
@@ -19,7 +19,7 @@ use Rattle.ja_constraints.specs.Events.{follows}
 use Rattle.ja_firing.specs.Tokens.{fires}
 use Rattle.ja_solving.specs.Rules.{OneSays, Rule, starts_so, follows_so, fires_so, IsSolved}
 use Rattle.ja_solving.proofs.More.{front-inside, item-inside}
-use Rattle.ja_solving.specs.InnerWorking.{IsWorking, FiresAll, FiresEach, FiresAt}
+use Rattle.ja_solving.specs.InnerWorking.{IsWorking, FiresEach, FiresAt}
 
 module _ (p : Parts) (names : Names) where
   -- ---- the rules, for the least set

@@ -1,5 +1,5 @@
 -- What holds while a network is solved.
-use Rattle.std.specs.Prelude.{◌≡◌, ℕ, Contains}
+use Rattle.std.specs.Prelude.{ℕ}
 use Rattle.ja_sets.specs.Sets.{Has}
 use Rattle.ja_ir.specs.declared.program.Parts.{Parts}
 use Rattle.ja_facts.specs.Least.{Least}

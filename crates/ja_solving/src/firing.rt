@@ -58,7 +58,7 @@ fn fire_each(
     ensures network { OnOk result (IsNetwork net.new) }
     ensures extends { OnOk result (Extends net.old net.new (FiresAll p.now names.now (Has set.now) action)) }
 {
-    // Tokens are numbered by a u32, and so the place behind one is a u32 too.
+    // The number of all tokens is a u32, and so is the place behind one.
     let _count = token_count(p);
     let mut from = 0;
     'tokens: while let Some(token) = set.next_from(from) {
@@ -117,7 +117,7 @@ pub fn fire_links(
             None => return Ok(()),
         }
     }
-    // So many links have no room.
+    // There is no room for so many links.
     Err(Memory)
 }
 

@@ -88,7 +88,7 @@ fn work(
             return Ok(());
         }
     }
-    // Each step is of an event or a turn of its own, and so many have no room.
+    // Each step is of an event or a turn of its own, and there is no room for so many.
     Err(Memory)
 }
 

@@ -47,12 +47,7 @@ fn tell_token(
 }
 
 // Tells a constraint.
-fn tell(
-    alloc: Global,
-    p: &Program,
-    net: &mut Network,
-    constraint: Constraint,
-) -> Result<(), Memory>
+fn tell(alloc: Global, p: &Program, net: &mut Network, constraint: Constraint) -> Result<(), Memory>
     requires network { IsNetwork net.old }
     requires size { net.old.tokens ≡ tables.token_count p.now }
     ensures network { OnOk result (IsNetwork net.new) }

@@ -12,7 +12,7 @@ returns-clause-working c =
     let old = c.args.net.now in
     let new = c.tell_all.new.net in
     let told : c.as_slice.result.now ≡ starts c.args.p.now =
-        c.as_slice.ensures ∙ c.in_ok-add_starts.ensures ∙ ap (λ (before : List Constraint). before ++ starts c.args.p.now) c.requires.none in
+    c.as_slice.ensures ∙ c.in_ok-add_starts.ensures ∙ ap (λ (before : List Constraint). before ++ starts c.args.p.now) c.requires.none in
     on_ok_weaker c.tell_all.result
     (λ x. begun c.args.p.now c.args.names.now old new c.requires.empty
     (subst (λ (all : List Constraint). Extends old new (OneSays c.args.p.now all)) told x))

@@ -15,7 +15,7 @@ returns-clause-working c =
     let old = c.args.net.now in
     let told = c.tell_all.new.net in
     let all : c.as_slice.result.now ≡ follows p names event =
-        c.as_slice.ensures ∙ c.in_ok-add_follows.ensures ∙ ap (λ (before : List Constraint). before ++ follows p names event) c.clear.ensures in
+    c.as_slice.ensures ∙ c.in_ok-add_follows.ensures ∙ ap (λ (before : List Constraint). before ++ follows p names event) c.clear.ensures in
     on_ok_weaker c.settle_event.result
     (worked-event p names old told c.fire_at.new.net c.settle_event.new.self event c.requires.working c.requires.next
     (subst (λ (list : List Constraint). Extends old told (OneSays p list)) all c.in_ok-tell_all.ensures.extends) c.in_ok-fire_at.ensures.extends)
