@@ -1,6 +1,7 @@
 -- Words of the private functions: clauses by places, cases, and the moves that are made of them.
 use Rattle.std.specs.Prelude.{◌≡◌, ◌⊎◌, ◌-◌, ◌^◌, length, slice_get, ℕ, zero, suc, ◌+◌, ◌*◌, ◌/◌, ◌%◌, ◌<◌, ◌≤◌, ◌&&◌, ◌||◌, ◌==◌, not, nat_lt, nat_eq, Bool, true, false, List, [], ◌∷◌, ◌++◌, Option, Some, None, slice_index, if◌then◌else◌}
 use Rattle.std.specs.Int.{bit_at}
+use Rattle.std.specs.List.{list_any}
 use Rattle.ja_join.specs.declared.rule.Masks.{Masks}
 use Rattle.ja_join.specs.declared.rule.Move.{Move}
 use Rattle.ja_work.specs.declared.clause.Spot.{Spot}
@@ -34,10 +35,14 @@ part_of frame first count place clause = record {
   counted = is_counted first count (spot_at frame place);
 }
 
+-- both truths are the same
+abbrev pub is_same : Bool → Bool → Bool
+is_same true b = b
+is_same false b = not b
+
 -- the place is listed
 abbrev pub is_listed : List ℕ → ℕ → Bool
-is_listed [] place = false
-is_listed (q ∷ sources) place = nat_eq q place || is_listed sources place
+is_listed sources place = list_any (λ q. nat_eq q place) sources
 
 -- the truth that a case says of one of the listed places
 abbrev pub guessed : List ℕ → (code place : ℕ) → Bool
@@ -60,7 +65,7 @@ bound_in sources part case before = part.always || (one_value sources case part.
 -- what the case says of a place is so
 abbrev pub agrees : List ℕ → Part → (case : ℕ) → (before : Bool) → Bool
 agrees sources part case before =
-    (if is_listed sources part.place then before == guessed sources (case / 2) part.place else true) && (not (part.counted && before) || is_any case)
+    (if is_listed sources part.place then is_same before (guessed sources (case / 2) part.place) else true) && (not (part.counted && before) || is_any case)
 
 -- in a case, a place may have these truths
 abbrev pub allows_in : List ℕ → Part → (case : ℕ) → (before after : Bool) → Bool
@@ -138,7 +143,7 @@ parts_of frame range list j = part_if frame range j (slice_get list j)
 -- the rule is made of the clauses
 pub record IsMadeOf (frame : Frame) (list : List Clause) (sources : List ℕ) (range : Range) (cases : ℕ) (rule : Rule) : Type 0 where
   pub moves : AreMoves sources cases (parts_of frame range list) (size frame) rule.moves.items
-  pub waiting : (case : ℕ) → has rule.start.waiting case ≡ (nat_lt case cases && (is_any case == true))
-  pub seen : (case : ℕ) → has rule.start.seen case ≡ (nat_lt case cases && (is_any case == false))
+  pub waiting : (case : ℕ) → has rule.start.waiting case ≡ (nat_lt case cases && is_any case)
+  pub seen : (case : ℕ) → has rule.start.seen case ≡ (nat_lt case cases && not (is_any case))
   pub accepted_waiting : rule.accepted.waiting ≡ 0
   pub accepted_seen : rule.accepted.seen ≡ 2 ^ 32 - 1

@@ -8,12 +8,7 @@ use crate::parts::Part;
 pub(crate) fn is_listed(sources: &[u32], place: u32) -> bool
     ensures { result ≡ parts.is_listed sources.now place }
 {
-    for source in sources {
-        if *source == place {
-            return true;
-        }
-    }
-    false
+    sources.iter().any(|source| *source == place)
 }
 
 /// The truth that a case says of one of the listed places.
@@ -28,6 +23,13 @@ fn guessed(sources: &[u32], code: u32, place: u32) -> bool
         left = left / 2;
     }
     false
+}
+
+/// Whether both truths are the same.
+pub(crate) fn is_same(one: bool, other: bool) -> bool
+    ensures { result ≡ parts.is_same one other }
+{
+    if one { other } else { !other }
 }
 
 /// Whether in a case one of the counted values is true.
@@ -59,7 +61,9 @@ fn bound_in(sources: &[u32], part: &Part, case: u32, before: bool) -> bool
 fn agrees(sources: &[u32], part: &Part, case: u32, before: bool) -> bool
     ensures { result ≡ parts.agrees sources.now part.now case before }
 {
-    if is_listed(sources, part.place) && before != guessed(sources, case / 2, part.place) {
+    if is_listed(sources, part.place)
+        && !is_same(before, guessed(sources, case / 2, part.place))
+    {
         return false;
     }
     !(part.counted && before) || is_any(case)

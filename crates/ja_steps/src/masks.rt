@@ -1,19 +1,19 @@
-ghost use Rattle.std.specs.Prelude.{◌≡◌, ◌*◌, ◌+◌, ◌≤◌, ◌&&◌, ◌==◌, ℕ, nat_lt, IsTrue, Some};
+ghost use Rattle.std.specs.Prelude.{◌≡◌, ◌*◌, ◌+◌, ◌≤◌, ◌&&◌, ℕ, nat_lt, IsTrue, Some};
 ghost use Rattle.ja_base.specs.Limit.{last_variable};
-ghost use Rattle.ja_steps.specs.Parts.{has, is_any, HasAllowed, AreMasks, IsMoveOf, IsKept};
+ghost use Rattle.ja_steps.specs.Parts.{has, is_any, is_same, HasAllowed, AreMasks, IsMoveOf, IsKept};
 
-use crate::case::{allows_in, is_any, is_listed};
+use crate::case::{allows_in, is_any, is_listed, is_same};
 use crate::parts::Part;
 use ja_join::{Masks, Move};
 
 /// The mask of the cases that say, or do not say, that one of the counted values is true.
 pub(crate) fn starting(cases: u32, any: bool) -> u32
     requires { cases ≤ 32 }
-    ensures { (case : ℕ) → has result case ≡ (nat_lt case cases && (is_any case == any)) }
+    ensures { (case : ℕ) → has result case ≡ (nat_lt case cases && is_same any (is_any case)) }
 {
     let mut mask = 0;
     for case in 0..cases {
-        if is_any(case) == any {
+        if is_same(any, is_any(case)) {
             mask |= 1 << case;
         }
     }

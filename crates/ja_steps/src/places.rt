@@ -1,4 +1,4 @@
-ghost use Rattle.std.specs.Prelude.{◌≡◌, ◌<◌, ◌≤◌, true, slice_index};
+ghost use Rattle.std.specs.Prelude.{◌≡◌, ◌+◌, ◌<◌, ◌≤◌, true, slice_index};
 ghost use Rattle.ja_base.specs.Limit.{max_frame_values};
 ghost use Rattle.ja_work.specs.Frames as frames;
 ghost use Rattle.ja_steps.specs.Parts as parts;
