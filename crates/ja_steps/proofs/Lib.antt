@@ -1,1 +1,3 @@
 pub mod Masking
+pub mod Moving
+pub mod Leaving
