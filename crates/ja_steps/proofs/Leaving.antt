@@ -257,3 +257,97 @@ module _ (sources : List ℕ) (cases : ℕ) (parts : ℕ → Part) (placed : (j 
           (has_and s.waiting masks.waiting case ∙ ap (λ x. x && has masks.waiting case) w)
           (has_or (bit_and s.seen masks.seen) (bit_and s.waiting masks.sees) case ∙ ap (λ x. x || has (bit_and s.waiting masks.sees) case) (has_and s.seen masks.seen case ∙ ap (λ x. x && has masks.seen case) e)
             ∙ has_and s.waiting masks.sees case ∙ ap (λ x. x && has masks.sees case) w)
+
+    -- some case may be left where the states are accepted that have seen
+    accepted_some : (accepted s : States) → accepted.waiting ≡ 0 → accepted.seen ≡ 2 ^ 32 - 1 → accepts accepted s ≡ true → (case : ℕ) × (case < 32) × (has s.seen case ≡ true)
+    accepted_some accepted s quiet ones e = by_search (any_below (has s.seen) 32) refl
+      where
+        shown : not (bit_and s.seen (2 ^ 32 - 1) == 0) ≡ true
+        shown = sym (ap (λ x. not (x == 0) || not (bit_and s.seen accepted.seen == 0)) (ap (bit_and s.waiting) quiet ∙ and_zero_r s.waiting) ∙ ap (λ x. not (bit_and s.seen x == 0)) ones) ∙ e
+
+        empty : any_below (has s.seen) 32 ≡ false → (j : ℕ) → has (bit_and s.seen (2 ^ 32 - 1)) j ≡ false
+        empty f j = has_and s.seen (2 ^ 32 - 1) j ∙ ⊎_elim
+            (λ lt. ap (λ x. x && has (2 ^ 32 - 1) j) (none_below (has s.seen) 32 j f lt))
+            (λ ge. ap (λ x. has s.seen j && (x == 1)) (bit_at_ones_above 32 j ge) ∙ and_false (has s.seen j))
+            (cases_lt j 32)
+          where
+            and_false : (x : Bool) → (x && false) ≡ false
+            and_false true = refl
+            and_false false = refl
+
+        by_search : (b : Bool) → any_below (has s.seen) 32 ≡ b → (case : ℕ) × (case < 32) × (has s.seen case ≡ true)
+        by_search true f = some_below (has s.seen) 32 f
+        by_search false f = let clash : false ≡ true = sym (ap (λ x. not (x == 0)) (has_none (bit_and s.seen (2 ^ 32 - 1)) (empty f))) ∙ shown in absurd (cc clash)
+
+    some_accepted : (accepted s : States) (case : ℕ) → accepted.waiting ≡ 0 → accepted.seen ≡ 2 ^ 32 - 1 → case < 32 → has s.seen case ≡ true → accepts accepted s ≡ true
+    some_accepted accepted s case quiet ones lt e = ap (λ x. not (x == 0) || not (bit_and s.seen accepted.seen == 0)) (ap (bit_and s.waiting) quiet ∙ and_zero_r s.waiting)
+        ∙ ap (λ x. not (bit_and s.seen x == 0)) ones ∙ ap not (ne_eqb (bit_and s.seen (2 ^ 32 - 1)) 0 (λ zero'.
+          let clash : false ≡ true = sym (has_zero case) ∙ sym (ap (λ x. has x case) zero') ∙ has_and s.seen (2 ^ 32 - 1) case ∙ and_from (has s.seen case) (has (2 ^ 32 - 1) case) e (has_ones case lt) in cc clash))
+
+    -- a counted value that is true is so in the case
+    pub counted_any : (case n : ℕ) → all_allowed case n ≡ true → some_counted n ≡ true → is_any case ≡ true
+    counted_any case zero all some = absurd (cc some)
+    counted_any case (suc n) all some =
+        let parts' = and_parts (all_allowed case n) (allowed_at case n) all in
+        by_last (some_counted n) refl (counted_any case n parts'.0) (and_parts (agrees sources (parts n) case (before (4 * n + 1))) (fits_as (parts n).exact (bound_in sources (parts n) case (before (4 * n + 1))) (after (4 * n + 1))) parts'.1).0
+      where
+        seen_any : (c d : Bool) (b : Bool) → c ≡ true → (b && (not c || d)) ≡ true → d ≡ true
+        seen_any true d true f e = e
+        seen_any true d false f e = absurd (cc e)
+        seen_any false d b f e = absurd (cc f)
+
+        by_last : (b : Bool) → some_counted n ≡ b → (some_counted n ≡ true → is_any case ≡ true) → agrees sources (parts n) case (before (4 * n + 1)) ≡ true → is_any case ≡ true
+        by_last true f rest agree = rest f
+        by_last false f rest agree = seen_any (counted_at n) (is_any case) (if is_listed sources (parts n).place then is_same (before (4 * n + 1)) (guessed sources (case / 2) (parts n).place) else true)
+            (ap (λ x. x || counted_at n) (sym f) ∙ some) agree
+
+    module _ (size : ℕ) (moves : List Move) (start accepted : States) (are : AreMoves sources cases parts size moves)
+      (waiting : (case : ℕ) → has start.waiting case ≡ (nat_lt case cases && is_any case)) (seen : (case : ℕ) → has start.seen case ≡ (nat_lt case cases && not (is_any case)))
+      (accepts_none : accepted.waiting ≡ 0) (accepts_seen : accepted.seen ≡ 2 ^ 32 - 1) (stay : Stay size moves) where
+
+      -- a case of the rule in which all places are allowed, and in which some counted value is true exactly where it says so
+      pub record IsLeft : Type 0 where
+        pub case : ℕ
+        pub within : nat_lt case cases ≡ true
+        pub all : all_allowed case size ≡ true
+        pub any : is_any case ≡ some_counted size
+
+      left_parts : (all any some : Bool) → (all && (not any || (any && some))) ≡ true → (some ≡ true → any ≡ true) → (all ≡ true) × (any ≡ some)
+      left_parts true true true e f = (refl, refl)
+      left_parts true true false e f = absurd (cc e)
+      left_parts true false true e f = absurd (cc (f refl))
+      left_parts true false false e f = (refl, refl)
+      left_parts false any some e f = absurd (cc e)
+
+      start_seen : (case : ℕ) → nat_lt case cases ≡ true → (has start.seen case ≡ not (is_any case)) × (has start.waiting case ≡ is_any case)
+      start_seen case within = (seen case ∙ ap (λ x. x && not (is_any case)) within, waiting case ∙ ap (λ x. x && is_any case) within)
+
+      seen_is : (case : ℕ) → nat_lt case cases ≡ true → has (run moves start).seen case ≡ (all_allowed case size && (not (is_any case) || (is_any case && some_counted size)))
+      seen_is case within =
+          let first = start_seen case within in
+          (runs case start size moves within are stay).seen ∙ ap (λ x. all_allowed case size && (x || (has start.waiting case && some_counted size))) first.0 ∙ ap (λ x. all_allowed case size && (not (is_any case) || (x && some_counted size))) first.1
+
+      pub left_case : allows accepted moves start before after ≡ true → IsLeft
+      left_case e =
+          let found = accepted_some accepted (run moves start) accepts_none accepts_seen (sym (allows_run accepted moves start) ∙ e) in
+          by_test found.0 found.2 (nat_lt found.0 cases) refl
+        where
+          by_test : (case : ℕ) → has (run moves start).seen case ≡ true → (b : Bool) → nat_lt case cases ≡ b → IsLeft
+          by_test case there true within =
+              let shown = sym (seen_is case within) ∙ there in
+              let all = (and_parts (all_allowed case size) (not (is_any case) || (is_any case && some_counted size)) shown).0 in
+              let parts' = left_parts (all_allowed case size) (is_any case) (some_counted size) shown (counted_any case size all) in
+              record { case = case; within = within; all = parts'.0; any = parts'.1 }
+          by_test case there false out =
+              let clash : false ≡ true = sym (runs_none case start moves start (waiting case ∙ ap (λ x. x && is_any case) out) (seen case ∙ ap (λ x. x && not (is_any case)) out)) ∙ there in absurd (cc clash)
+
+      pub case_left : cases ≤ 32 → IsLeft → allows accepted moves start before after ≡ true
+      case_left few left =
+          let lt = ltb-true left.case cases left.within in
+          allows_run accepted moves start ∙ some_accepted accepted (run moves start) left.case accepts_none accepts_seen (omega (arith, few, lt))
+          (seen_is left.case left.within ∙ all_seen (all_allowed left.case size) (is_any left.case) (some_counted size) left.all left.any)
+        where
+          all_seen : (all any some : Bool) → all ≡ true → any ≡ some → (all && (not any || (any && some))) ≡ true
+          all_seen true true some e f = sym f
+          all_seen true false some e f = refl
+          all_seen false any some e f = absurd (cc e)

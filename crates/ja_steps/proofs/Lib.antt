@@ -1,3 +1,5 @@
 pub mod Masking
 pub mod Moving
 pub mod Leaving
+pub mod Placing
+pub mod Guessing
