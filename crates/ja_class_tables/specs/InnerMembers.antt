@@ -11,8 +11,8 @@ use Rattle.ja_network.specs.declared.network.Network.{Network}
 use Rattle.ja_class_tables.specs.InnerPool.{IsSetOf, row_of}
 
 -- there are so many sets, and each of the first of them is that of its cell
-pub record AreSetsOf (net : Network) (cell : ℕ → Cell) (count size : ℕ) (sets : List (List Bool)) : Type 0 where
-  pub size : length sets ≡ size
+pub record AreSetsOf (net : Network) (cell : ℕ → Cell) (count total : ℕ) (sets : List (List Bool)) : Type 0 where
+  pub size : length sets ≡ total
   pub each : (k : ℕ) → k < count → IsSetOf net (cell k) (slice_index_or sets k [])
 
 -- how many parameters a method has, if there is one

@@ -5,8 +5,8 @@ mod members;
 mod notes;
 mod numbers;
 mod pool;
+mod reading;
 mod slots;
-mod tables;
 mod targets;
 
-pub use tables::tables;
+pub use reading::tables;

@@ -70,9 +70,9 @@ impl Pool {
         requires sets { AreSets net.now self.old.sets }
         requires size { length set ≡ net.now.tokens }
         ensures sets { OnOk result (AreSets net.now self.new.sets) }
-        ensures grows { Grows self.old.sets self.new.sets }
+        ensures grows { OnOk result (Grows self.old.sets self.new.sets) }
         ensures named { IfOk result (λ name. slice_get self.new.sets name ≡ Some set) }
-        ensures cells { self.new.by_cell ≡ self.old.by_cell }
+        ensures cells { OnOk result (self.new.by_cell ≡ self.old.by_cell) }
     {
         let name = self.sets.len();
         if name >= u32::MAX as u64 {
@@ -87,9 +87,9 @@ impl Pool {
         requires sets { AreSets net.now self.old.sets }
         requires size { length set ≡ net.now.tokens }
         ensures sets { OnOk result (AreSets net.now self.new.sets) }
-        ensures grows { Grows self.old.sets self.new.sets }
+        ensures grows { OnOk result (Grows self.old.sets self.new.sets) }
         ensures named { IfOk result (λ name. slice_get self.new.sets name ≡ Some set) }
-        ensures cells { self.new.by_cell ≡ self.old.by_cell }
+        ensures cells { OnOk result (self.new.by_cell ≡ self.old.by_cell) }
     {
         let key = key_of(&set);
         if let Some(name) = self.found(net, key, &set) {
@@ -105,7 +105,7 @@ impl Pool {
         requires network { IsNetwork net.now }
         requires pool { IsPool net.now self.old }
         ensures pool { OnOk result (IsPool net.now self.new) }
-        ensures grows { Grows self.old.sets self.new.sets }
+        ensures grows { OnOk result (Grows self.old.sets self.new.sets) }
         ensures named { IfOk result (IsNamed net.now self.new.sets cell) }
     {
         let set = net.tokens_of(alloc, cell)?;
@@ -117,7 +117,7 @@ impl Pool {
         requires network { IsNetwork net.now }
         requires pool { IsPool net.now self.old }
         ensures pool { OnOk result (IsPool net.now self.new) }
-        ensures grows { Grows self.old.sets self.new.sets }
+        ensures grows { OnOk result (Grows self.old.sets self.new.sets) }
         ensures named { IfOk result (IsNamed net.now self.new.sets cell) }
     {
         if let Some(name) = self.by_cell.get(&cell) {

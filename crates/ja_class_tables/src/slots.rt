@@ -13,7 +13,7 @@ use ja_network::{Cell, Network};
 use std::alloc::Global;
 
 // The cells of the slots before an instruction, if it is reached.
-fn cells_before(names: &Names, graph: &CallGraph, m: u32, i: u32) -> &[Cell]
+fn cells_before<'a>(names: &'a Names, graph: &CallGraph, m: u32, i: u32) -> &'a [Cell]
     ensures { result.now ≡ cells_before names.now graph.now m i }
 {
     if graph.reached(MethodId(m), i) {

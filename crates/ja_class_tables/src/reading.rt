@@ -1,4 +1,4 @@
-ghost use Rattle.std.specs.Prelude.{◌≡◌, ◌×◌, IfOk};
+ghost use Rattle.std.specs.Prelude.{◌≡◌, IfOk};
 ghost use Rattle.ja_facts.specs.ClassTables.{token_count};
 ghost use Rattle.ja_network.specs.Facts.{IsNetwork, events_of};
 ghost use Rattle.ja_class_tables.specs.InnerMembers.{HasMembers};
