@@ -1,4 +1,5 @@
 ghost use Rattle.std.specs.Prelude.{◌≡◌, Some, slice_get, IfOk, OnOk};
+ghost use Rattle.ja_ir.specs.Whole.{IsWhole};
 ghost use Rattle.ja_network.specs.Facts.{IsNetwork};
 ghost use Rattle.ja_class_tables.specs.InnerPool as inner;
 ghost use Rattle.ja_class_tables.specs.InnerPool.{AreNumbers, AreAllNumbers, Grows, IsNumber, IsPool};
@@ -87,6 +88,7 @@ fn method_numbers(
     pool: &mut Pool,
 ) -> Result<Rows<u32>, Memory>
     requires network { IsNetwork net.now }
+    requires whole { IsWhole p.now }
     requires found { slice_get p.now.methods m ≡ Some method.now }
     requires room { HasItems p.now graph.now.reached }
     requires pool { IsPool net.now pool.old }
