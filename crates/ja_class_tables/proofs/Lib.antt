@@ -1,3 +1,4 @@
 mod Cells
 mod Pools
 mod Rows
+mod Written

@@ -4,7 +4,7 @@ use Rattle.std.specs.Prelude.{slice_get, if◌then◌else◌}
 use Rattle.std.proofs.lemmas.Bool.{cases_lt}
 use Rattle.std.proofs.lemmas.List.{length_push, get_or_at, get_or_append_left, get_or_past, take_more}
 use Rattle.std.specs.List.{AllZip}
-use Rattle.std.proofs.lemmas.Option.{slice_get_past, get_or_from_slice_get}
+use Rattle.std.proofs.lemmas.Option.{slice_get_past, slice_get_read}
 use Rattle.ja_ir.specs.declared.program.Parts.{Parts}
 use Rattle.ja_ir.specs.declared.method.Method.{Method}
 use Rattle.ja_ir.specs.declared.method.Instr.{Instr}
@@ -19,6 +19,10 @@ use Rattle.ja_class_tables.specs.declared.numbers.Part.TheVariants.{OfThrown, Of
 use Rattle.ja_class_tables.specs.InnerPool.{IsNamed, Grows, AreNamed, IsNumber, cells_before, part_of, row_of, AreRowsNamed, AreSlotsNamed, AreNumbers, AreAllNumbers}
 use Rattle.ja_class_tables.specs.InnerNotes.{HasItems, code_size}
 use Rattle.ja_class_tables.proofs.Pools.{row-on, rows-on, number-on}
+
+-- an item that was read from a list of a program
+pub read-at : {A : Type 0} (items xs : List A) (k : ℕ) (item : A) → items ≡ xs → k < length items → item ≡ get_or items k item → slice_get xs k ≡ Some item
+read-at items xs k item is lt read = subst (λ ys. slice_get ys k ≡ Some item) is (slice_get_read items (length items) k item refl lt read)
 
 -- what holds of each of the first so many items, and of one more
 pub below-push : {A : Type 0} (P : ℕ → A → Type 0) (d : A) (rows new : List A) (row : A) (i : ℕ) → length rows ≡ i → ((b : ℕ) → b < i → P b (get_or rows b d)) → P i row → new ≡ rows ++ row ∷ []

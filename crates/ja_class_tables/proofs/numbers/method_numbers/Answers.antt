@@ -7,7 +7,7 @@ use Rattle.ja_network.specs.declared.cell.Cell.{Cell}
 use Rattle.ja_cells.proofs.Naming.{few-instructions}
 use Rattle.ja_class_tables.specs.InnerPool.{IsNumber}
 use Rattle.ja_class_tables.proofs.Pools.{grows-on}
-use Rattle.ja_class_tables.proofs.Rows.{numbers-more, numbers-all}
+use Rattle.ja_class_tables.proofs.Rows.{read-at, numbers-more, numbers-all}
 use Rattle.ja_class_tables.proofs.numbers.method_numbers.Goals as goal
 
 pub loop-i-preserved : goal.loop-i-preserved
@@ -21,9 +21,7 @@ loop-i-preserved c =
     let before = c.loop-i.invariant in
     let grown = c.in_ok-number.ensures.grows in
     let pushed = c.in_ok-push.ensures.ok in
-    let is : items ≡ method.code = c.as_slice-instr-items.ensures in
-    let lt : i < length items = c.loop-i-test.true in
-    let at : slice_get method.code i ≡ Some item = subst (λ (xs : List Instr). slice_get xs i ≡ Some item) is (slice_get_read items (length items) i item refl lt c.instr-item.is) in
+    let at = read-at items method.code i item (c.as_slice-instr-items.ensures) c.loop-i-test.true c.instr-item.is in
     record {
       is_pool = c.in_ok-number.ensures.pool;
       grows = grows-on c.args.pool.now.sets old new before.grows grown;

@@ -4,7 +4,7 @@ use Rattle.std.proofs.lemmas.List.{length_push}
 use Rattle.std.proofs.lemmas.Option.{slice_get_read}
 use Rattle.ja_ir.specs.declared.method.Method.{Method}
 use Rattle.ja_class_tables.proofs.Pools.{grows-on}
-use Rattle.ja_class_tables.proofs.Rows.{all-more, all-numbers}
+use Rattle.ja_class_tables.proofs.Rows.{read-at, all-more, all-numbers}
 use Rattle.ja_class_tables.proofs.numbers.numbers_of.Goals as goal
 
 pub method_numbers-requires-clause-found : goal.method_numbers-requires-clause-found
@@ -12,9 +12,7 @@ method_numbers-requires-clause-found c =
     let items = c.as_slice-method-items.result.now in
     let m = c.loop-m.m in
     let item = c.method-item.result in
-    let is : items ≡ c.args.p.now.methods = c.as_slice-method-items.ensures ∙ c.methods.ensures.same in
-    let lt : m < length items = c.loop-m-test.true in
-    subst (λ (xs : List Method). slice_get xs m ≡ Some item) is (slice_get_read items (length items) m item refl lt c.method-item.is)
+    read-at items c.args.p.now.methods m item (c.as_slice-method-items.ensures ∙ c.methods.ensures.same) c.loop-m-test.true c.method-item.is
 
 pub loop-m-preserved : goal.loop-m-preserved
 loop-m-preserved c =

@@ -4,7 +4,7 @@ use Rattle.std.proofs.lemmas.List.{length_push}
 use Rattle.std.proofs.lemmas.Option.{slice_get_read}
 use Rattle.ja_ir.specs.declared.method.Method.{Method}
 use Rattle.ja_class_tables.proofs.Pools.{grows-on}
-use Rattle.ja_class_tables.proofs.Rows.{slots-more, slots-all, method-size}
+use Rattle.ja_class_tables.proofs.Rows.{read-at, slots-more, slots-all, method-size}
 use Rattle.ja_class_tables.proofs.slots.slot_names.Goals as goal
 
 pub loop-m-preserved : goal.loop-m-preserved
@@ -30,10 +30,7 @@ returns-clause-named c =
 
 pub method_slots-requires-clause-room : goal.method_slots-requires-clause-room
 method_slots-requires-clause-room c =
-    let items = c.as_slice-method-items.result.now in
     let m = c.loop-m.m in
     let item = c.method-item.result in
-    let is : items ≡ c.args.p.now.methods = c.as_slice-method-items.ensures ∙ c.methods.ensures.same in
-    let lt : m < length items = c.loop-m-test.true in
-    let at : slice_get c.args.p.now.methods m ≡ Some item = subst (λ (xs : List Method). slice_get xs m ≡ Some item) is (slice_get_read items (length items) m item refl lt c.method-item.is) in
+    let at = read-at c.as_slice-method-items.result.now c.args.p.now.methods m item (c.as_slice-method-items.ensures ∙ c.methods.ensures.same) c.loop-m-test.true c.method-item.is in
     c.requires.room m ∙ method-size c.args.p.now m item at ∙ sym c.len-size.ensures
