@@ -2,3 +2,4 @@ mod Cells
 mod Pools
 mod Rows
 mod Written
+mod Noted
