@@ -3,3 +3,4 @@ mod Pools
 mod Rows
 mod Written
 mod Noted
+mod Said

@@ -327,3 +327,8 @@ nothing-noted p notes graph targets =
         λ h. absurd (none-listed (CallsLibrary m i) h.1),
       );
     }
+
+-- an event is noted where the next one is
+pub noted-next : (p : Parts) (events : List Event) (k : ℕ) (e variant : Event) (new result : Notes) → slice_get events k ≡ Some e → e ≡ variant → result ≡ new → IsNoted p (take k events ++ variant ∷ []) new → IsNoted p (take (k + 1) events) result
+noted-next p events k e variant new result at is same noted =
+    subst (λ es. IsNoted p es result) (sym (take-event events k variant (at ∙ ap Some is))) (subst (IsNoted p (take k events ++ variant ∷ [])) (sym same) noted)

@@ -1,18 +1,18 @@
 -- What is noted of the events that happen.
-use Rattle.std.specs.Prelude.{◌≡◌, ◌⊎◌, ◌↔◌, ℕ, ◌<◌, Bool, true, false, List, [], ◌∷◌, ◌++◌, Some, Contains, length, slice_get, slice_index_or, IsTrue}
+use Rattle.std.specs.Prelude.{◌≡◌, ◌⊎◌, ◌↔◌, ℕ, suc, ◌<◌, Bool, true, false, List, [], ◌∷◌, ◌++◌, Some, Contains, length, slice_get, slice_index_or, IsTrue}
+use Rattle.std.specs.List.Sorted.{IsNonDecreasing}
 use Rattle.ja_ir.specs.declared.program.Parts.{Parts}
 use Rattle.ja_ir.specs.Lookup.{code_of}
 use Rattle.ja_facts.specs.declared.targets.Targets.{Targets}
 use Rattle.ja_facts.specs.ClassTables.{token_count, no_members}
 use Rattle.ja_facts.specs.FactTables.{GraphTable, is_reached, no_targets}
-use Rattle.ja_facts.specs.Shared.{option_named}
 use Rattle.ja_facts.specs.Listing.{with_listed_in}
 use Rattle.ja_network.specs.declared.cell.Event.{Event}
 use Rattle.ja_network.specs.declared.cell.Event.TheVariants.{Reached, Calls, CallsAbstract, CallsLibrary}
 use Rattle.ja_network.specs.declared.network.Network.{Network}
 use Rattle.ja_network.specs.Facts.{events_of}
 use Rattle.ja_class_tables.specs.declared.notes.Notes.{Notes}
-use Rattle.ja_class_tables.specs.Reads.{IsInstr, IsAscending}
+use Rattle.ja_class_tables.specs.Reads.{IsInstr}
 
 -- the item of instruction i of method m, and another one where there is none
 abbrev pub item_at : {A : Type 0} → List (List A) → (m i : ℕ) → A → A
@@ -52,18 +52,19 @@ pub record IsNoted (p : Parts) (events : List Event) (notes : Notes) : Type 0 wh
   pub library : (m i : ℕ) → ((noted_at notes m i).library ≡ true) ↔ (IsInstr p m i × Contains events (CallsLibrary m i))
 
 -- the same targets, in ascending order
-pub record IsSorted (old new : Targets) : Type 0 where
+pub record IsInOrder (old new : Targets) : Type 0 where
   pub methods : (n : ℕ) → Contains new.methods n ↔ Contains old.methods n
-  pub ascending : IsAscending new.methods
+  pub ascending : IsNonDecreasing new.methods
   pub library : new.library ≡ old.library
 
--- what the number says of a pool of targets
-abbrev pub said : List Targets → (number : ℕ) → Targets
-said pool number = slice_index_or (option_named pool no_targets number) 0 no_targets
+-- the number says the targets, from a pool, in ascending order: one more than their place, or 0 where there are none
+pub data IsSaid (pool : List Targets) (noted : Targets) (number : ℕ) : Type 0 where
+  nowhere : number ≡ 0 → IsInOrder noted no_targets → IsSaid pool noted number
+  somewhere : (place : ℕ) (targets : Targets) → number ≡ suc place → slice_get pool place ≡ Some targets → IsInOrder noted targets → IsSaid pool noted number
 
 -- the numbers of a method say its targets
 pub record AreTargets (pool : List Targets) (noted : List Targets) (row : List ℕ) : Type 0 where
-  pub each : (i : ℕ) → IsSorted (slice_index_or noted i no_targets) (said pool (slice_index_or row i 0))
+  pub each : (i : ℕ) → IsSaid pool (slice_index_or noted i no_targets) (slice_index_or row i 0)
 
 -- the numbers of all methods say their targets
 pub record AreAllTargets (pool : List Targets) (noted : List (List Targets)) (table : List (List ℕ)) : Type 0 where

@@ -1,5 +1,6 @@
 -- Tables that say what a network tells.
-use Rattle.std.specs.Prelude.{◌≡◌, ◌⊎◌, ◌↔◌, ℕ, ◌<◌, ◌≤◌, Bool, true, List, Some, Contains, length, slice_get, slice_index}
+use Rattle.std.specs.Prelude.{◌≡◌, ◌⊎◌, ◌↔◌, ℕ, ◌<◌, Bool, true, List, Some, Contains, length, slice_get}
+use Rattle.std.specs.List.Sorted.{IsNonDecreasing}
 use Rattle.ja_ir.specs.declared.program.Parts.{Parts}
 use Rattle.ja_ir.specs.declared.method.Method.{Method}
 use Rattle.ja_ir.specs.declared.method.Instr.{Instr}
@@ -54,10 +55,6 @@ pub record ReadsSets (p : Parts) (names : Names) (net : Network) (sets : ClassTa
 abbrev pub MayCall : Network → (m i n : ℕ) → Type 0
 MayCall net m i n = Tells net (Happens (Calls m i n)) ⊎ Tells net (Happens (CallsAbstract m i n))
 
--- the numbers rise or stay
-abbrev pub IsAscending : List ℕ → Type 0
-IsAscending ns = (j k : ℕ) → j ≤ k → k < length ns → slice_index ns j ≤ slice_index ns k
-
 -- what is reached is what the network tells of the program's instructions
 abbrev pub ReadsReached : Parts → Network → GraphTable → Type 0
 ReadsReached p net graph = (m i : ℕ) → (is_reached graph m i ≡ true) ↔ MayRun p net m i
@@ -66,6 +63,6 @@ ReadsReached p net graph = (m i : ℕ) → (is_reached graph m i ≡ true) ↔ M
 pub record ReadsGraph (p : Parts) (net : Network) (graph : GraphTable) : Type 0 where
   pub reached : ReadsReached p net graph
   pub targets : (m i n : ℕ) → Contains (targets_at graph m i).methods n ↔ (IsInstr p m i × MayCall net m i n)
-  pub ascending : (m i : ℕ) → IsAscending (targets_at graph m i).methods
+  pub ascending : (m i : ℕ) → IsNonDecreasing (targets_at graph m i).methods
   pub library : (m i : ℕ) → ((targets_at graph m i).library ≡ true) ↔ (IsInstr p m i × Tells net (Happens (CallsLibrary m i)))
   pub takers : (m i : ℕ) → HasExactly (token_count p) (λ t. IsCallAt p m i × Tells net (HasToken (Takers m i) t)) (takers_at graph m i)

@@ -1,7 +1,7 @@
 ghost use Rattle.std.specs.Prelude.{◌≡◌, ℕ, ◌↔◌, Contains, IfOk, OnOk};
-ghost use Rattle.ja_class_tables.specs.Reads.{IsAscending};
+ghost use Rattle.std.specs.List.Sorted.{IsNonDecreasing};
 ghost use Rattle.ja_class_tables.specs.InnerPool.{Grows};
-ghost use Rattle.ja_class_tables.specs.InnerNotes.{AreAllTargets, AreTargets, IsSorted, said};
+ghost use Rattle.ja_class_tables.specs.InnerNotes.{AreAllTargets, AreTargets, IsSaid};
 
 use ja_base::{Memory, Numbers, Seq};
 use ja_facts::{Rows, Targets};
@@ -10,7 +10,7 @@ use std::alloc::Global;
 // The same numbers in ascending order.
 fn ascending(alloc: Global, numbers: &[u64]) -> Result<Numbers, Memory>
     ensures same { IfOk result (λ sorted. (n : ℕ) → Contains sorted n ↔ Contains numbers.now n) }
-    ensures ascending { IfOk result IsAscending }
+    ensures ascending { IfOk result IsNonDecreasing }
 {
     let mut sorted = Vec::from_slice(alloc, numbers)?;
     sorted.sort()?;
@@ -20,7 +20,7 @@ fn ascending(alloc: Global, numbers: &[u64]) -> Result<Numbers, Memory>
 // Adds targets to a pool, in ascending order, and says one more than their place: 0 where there are none.
 fn number_of(alloc: Global, targets: &Targets, pool: &mut Rows<Targets>) -> Result<u32, Memory>
     ensures grows { OnOk result (Grows pool.old pool.new) }
-    ensures said { IfOk result (λ number. IsSorted targets.now (said pool.new number)) }
+    ensures said { IfOk result (IsSaid pool.new targets.now) }
 {
     if !targets.library && targets.methods.is_empty() {
         return Ok(0);
