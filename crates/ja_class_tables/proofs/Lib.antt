@@ -4,3 +4,4 @@ mod Rows
 mod Written
 mod Noted
 mod Said
+mod Exact

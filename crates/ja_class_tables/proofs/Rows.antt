@@ -133,3 +133,6 @@ all-numbers p net part graph sets m table room size all below = record {
   each = below-all (AreNumbers p net part graph sets) [] table m size below
       (λ a le. record { each = λ i. none-numbered p net graph sets part a i room (let none = no-method-size p a (omega arith) in omega arith) });
 }
+
+pub slots-on : (net : Network) (names : Names) (graph : GraphTable) (old new : List (List Bool)) (table : List (List (List ℕ))) → Grows old new → AreSlotsNamed net names graph old table → AreSlotsNamed net names graph new table
+slots-on net names graph old new table grows named = record { each = λ m. rows-on net names graph old new m (row_of table m) grows (named.each m) }
