@@ -1,10 +1,9 @@
 -- What the tables have that are made of names.
-use Rattle.std.proofs.Common.{◌≡◌, ◌⊎◌, ◌↔◌, inl, inr, ℕ, zero, suc, ◌+◌, ◌<◌, ◌≤◌, Bool, true, false, List, [], ◌∷◌, Option, Some, None, length, map, replicate, get_or, refl, sym, ap, subst, ◌∙◌, true≢false, arith}
-use Rattle.std.specs.Prelude.{Contains, slice_get, if◌then◌else◌}
-use Rattle.std.specs.List.Sorted.{IsNonDecreasing}
+use Rattle.std.proofs.Common.{◌≡◌, ◌↔◌, inl, inr, ℕ, zero, suc, ◌<◌, ◌≤◌, Bool, true, false, List, [], ◌∷◌, Option, Some, None, length, map, get_or, refl, sym, ap, subst, ◌∙◌, true≢false, arith}
+use Rattle.std.specs.Prelude.{slice_get, if◌then◌else◌}
 use Rattle.std.proofs.lemmas.Bool.{cases_lt, cases_Bool}
 use Rattle.std.proofs.lemmas.List.{get_or_default, get_or_past, get_or-replicate, length-replicate}
-use Rattle.std.proofs.lemmas.Option.{get_or_from_slice_get, same_Some, none-some, slice_get_past, slice_get-get_or, slice_get_within}
+use Rattle.std.proofs.lemmas.Option.{get_or_from_slice_get, same_Some, none-some, slice_get_past}
 use Rattle.ja_ir.specs.declared.program.Parts.{Parts}
 use Rattle.ja_ir.specs.declared.method.Method.{Method}
 use Rattle.ja_ir.specs.declared.method.Instr.{Instr}
@@ -26,10 +25,9 @@ use Rattle.ja_network.specs.declared.network.Network.{Network}
 use Rattle.ja_network.specs.Facts.{HasToken, Tells, events_of}
 use Rattle.ja_cells.specs.Rows.{cell_in}
 use Rattle.ja_cells.specs.Names.{Names, row_at}
-use Rattle.ja_class_tables.specs.declared.numbers.Part.{Part}
 use Rattle.ja_class_tables.specs.declared.numbers.Part.TheVariants.{OfThrown, OfTakers}
-use Rattle.ja_class_tables.specs.Reads.{HasExactly, IsBefore, IsInstr, IsParam, MayRun, ReadsReached, ReadsSets, ReadsGraph}
-use Rattle.ja_class_tables.specs.InnerPool.{IsNamed, IsSetOf, AreNamed, AreSlotsNamed, AreAllNumbers, IsNumber, cells_before, is_call, part_of, row_of}
+use Rattle.ja_class_tables.specs.Reads.{HasExactly, IsBefore, IsParam, MayRun, ReadsReached, ReadsSets, ReadsGraph}
+use Rattle.ja_class_tables.specs.InnerPool.{IsSetOf, AreNamed, AreSlotsNamed, AreAllNumbers, IsNumber, cells_before, is_call, part_of, row_of}
 use Rattle.ja_class_tables.specs.declared.notes.Notes.{Notes}
 use Rattle.ja_class_tables.specs.InnerMembers.{AreSetsOf, params_in, HasParams, HasResults, HasFields, HasBags, HasMembers}
 use Rattle.ja_class_tables.specs.InnerNotes.{IsInOrder, IsNoted, IsSaid, nowhere, somewhere, AreAllTargets, item_at, noted_at}
@@ -99,14 +97,12 @@ exact-row net pool none empty (c ∷ cells) (n ∷ row) named (suc z) =
 before-cells : (p : Parts) (names : Names) (net : Network) (graph : GraphTable) → ReadsReached p net graph → (m i z t : ℕ) → InRow net (cells_before names graph m i) z t ↔ IsBefore p names net m i z t
 before-cells p names net graph reads m i z t = elim (cases_Bool (is_reached graph m i)) [
   | inl on ↦
-      let same : cells_before names graph m i ≡ row_at names m i = ap (λ (b : Bool). if b then row_at names m i else []) on in
-      (
+      let same : cells_before names graph m i ≡ row_at names m i = ap (λ (b : Bool). if b then row_at names m i else []) on in (
         λ h. let r = subst (λ cells. InRow net cells z t) same h in record { runs = (reads m i).0 on; within = r.0; told = r.1 },
         λ h. subst (λ cells. InRow net cells z t) (sym same) (h.within, h.told),
       )
   | inr off ↦
-      let same : cells_before names graph m i ≡ [] = ap (λ (b : Bool). if b then row_at names m i else []) off in
-      (
+      let same : cells_before names graph m i ≡ [] = ap (λ (b : Bool). if b then row_at names m i else []) off in (
         λ h. let r = subst (λ cells. InRow net cells z t) same h in let lt = r.0 in absurd (omega arith),
         λ h. absurd (true≢false (sym ((reads m i).1 h.runs) ∙ off)),
       )
@@ -144,14 +140,12 @@ exact-number net pool none empty (Some c) number is =
 thrown-cells : (p : Parts) (net : Network) (graph : GraphTable) → ReadsReached p net graph → (m i t : ℕ) → InSome net (part_of OfThrown graph m i (instr_at p m i)) t ↔ (MayRun p net m i × Tells net (HasToken (Thrown m i) t))
 thrown-cells p net graph reads m i t = elim (cases_Bool (is_reached graph m i)) [
   | inl on ↦
-      let same : part_of OfThrown graph m i (instr_at p m i) ≡ Some (Thrown m i) = ap (λ (b : Bool). if b then Some (Thrown m i) else None) on in
-      (
+      let same : part_of OfThrown graph m i (instr_at p m i) ≡ Some (Thrown m i) = ap (λ (b : Bool). if b then Some (Thrown m i) else None) on in (
         λ h. ((reads m i).0 on, subst (λ (d : Cell). Tells net (HasToken d t)) (sym (same_Some (Thrown m i) h.0 (sym same ∙ h.1))) h.2),
         λ h. (Thrown m i, same, h.1),
       )
   | inr off ↦
-      let same : part_of OfThrown graph m i (instr_at p m i) ≡ None = ap (λ (b : Bool). if b then Some (Thrown m i) else None) off in
-      (
+      let same : part_of OfThrown graph m i (instr_at p m i) ≡ None = ap (λ (b : Bool). if b then Some (Thrown m i) else None) off in (
         λ h. absurd (none-some h.0 (sym same ∙ h.1)),
         λ h. absurd (true≢false (sym ((reads m i).1 h.0) ∙ off)),
       )
@@ -297,7 +291,7 @@ sets-read p names net graph members sets pool slots thrown tokens reads has name
     let none : sets.none ≡ members.none = ap (λ (s : ClassTable). s.none) is in
     let empty : sets.none ≡ no_members net.tokens = none ∙ has.none ∙ ap no_members (sym tokens) in
     let of_params : (m : ℕ) → AreSetsOf net (Param m) (params_in (slice_get p.methods m)) (params_in (slice_get p.methods m)) (row_of sets.params m) =
-        λ m. subst (λ rows. AreSetsOf net (Param m) (params_in (slice_get p.methods m)) (params_in (slice_get p.methods m)) (row_of rows m)) (sym (ap (λ (s : ClassTable). s.params) is)) (has.params m) in
+    λ m. subst (λ rows. AreSetsOf net (Param m) (params_in (slice_get p.methods m)) (params_in (slice_get p.methods m)) (row_of rows m)) (sym (ap (λ (s : ClassTable). s.params) is)) (has.params m) in
     let of_results : AreSetsOf net Answer (length p.methods) (length p.methods) sets.results = subst (AreSetsOf net Answer (length p.methods) (length p.methods)) (sym (ap (λ (s : ClassTable). s.results) is)) has.results in
     let of_outs : AreSetsOf net Out (length p.methods) (length p.methods) sets.outs = subst (AreSetsOf net Out (length p.methods) (length p.methods)) (sym (ap (λ (s : ClassTable). s.outs) is)) has.outs in
     let of_fields : AreSetsOf net Field (length p.fields) (length p.fields) sets.fields = subst (AreSetsOf net Field (length p.fields) (length p.fields)) (sym (ap (λ (s : ClassTable). s.fields) is)) has.fields in

@@ -1,24 +1,23 @@
 -- One event more that is noted.
-use Rattle.std.proofs.Common.{◌≡◌, ◌⊎◌, ◌↔◌, inl, inr, ℕ, zero, suc, ◌+◌, ◌<◌, ◌≤◌, Bool, true, false, List, [], ◌∷◌, ◌++◌, Option, Some, None, length, map, replicate, take, get_or, set, refl, sym, ap, subst, ◌∙◌, true≢false, arith}
+use Rattle.std.proofs.Common.{◌≡◌, ◌⊎◌, ◌↔◌, inl, inr, ℕ, zero, suc, ◌+◌, ◌<◌, ◌≤◌, Bool, true, false, List, [], ◌∷◌, ◌++◌, Some, length, map, replicate, take, get_or, set, refl, sym, ap, subst, ◌∙◌, true≢false, arith}
 use Rattle.std.specs.Prelude.{Contains, slice_get}
 use Rattle.std.proofs.lemmas.Bool.{cases_lt, cases_eq}
-use Rattle.std.proofs.lemmas.List.{get_or-set_same, get_or-set_other, get_or_past, length-set, length-replicate, take_more, get_or-replicate, take_all}
+use Rattle.std.proofs.lemmas.List.{get_or-set_same, get_or-set_other, get_or_past, length-set, length-replicate, take_more, get_or-replicate}
 use Rattle.std.proofs.lemmas.List.Elements.{Contains-append_left, Contains-push, Contains-push_cases}
-use Rattle.std.proofs.lemmas.Option.{slice_get_within, get_or_from_slice_get, slice_get-get_or}
+use Rattle.std.proofs.lemmas.Option.{slice_get_within, get_or_from_slice_get}
 use Rattle.ja_ir.specs.declared.program.Parts.{Parts}
 use Rattle.ja_ir.specs.declared.method.Method.{Method}
 use Rattle.ja_ir.specs.declared.method.Instr.{Instr}
-use Rattle.ja_ir.specs.Lookup.{code_of, instr_at}
+use Rattle.ja_ir.specs.Lookup.{code_of}
 use Rattle.ja_facts.specs.declared.targets.Targets.{Targets}
-use Rattle.ja_facts.specs.ClassTables.{token_count, no_members}
 use Rattle.ja_facts.specs.FactTables.{GraphTable, no_targets, empty_graph}
 use Rattle.ja_facts.specs.Listing.{with_listed_in}
 use Rattle.ja_network.specs.declared.cell.Event.{Event}
-use Rattle.ja_network.specs.declared.cell.Event.TheVariants.{Reached, Calls, CallsAbstract, CallsLibrary, Spanned, Linked}
+use Rattle.ja_network.specs.declared.cell.Event.TheVariants.{Reached, Calls, CallsAbstract, CallsLibrary}
 use Rattle.ja_class_tables.specs.declared.notes.Notes.{Notes}
 use Rattle.ja_class_tables.specs.Reads.{IsInstr}
 use Rattle.ja_class_tables.specs.InnerPool.{row_of}
-use Rattle.ja_class_tables.specs.InnerNotes.{item_at, code_size, HasItems, HasRoom, IsNoted, noted_at, with_method, with_library}
+use Rattle.ja_class_tables.specs.InnerNotes.{item_at, code_size, HasItems, IsNoted, noted_at, with_method, with_library}
 use Rattle.ja_class_tables.proofs.Written.{row-here, row-else}
 
 -- ---- items
@@ -36,12 +35,12 @@ item-of rows m i x a b d = elim (cases_eq a m) [
       elim (cases_eq b i) [
         | inr ne ↦ else (λ g f lt. ne f) (at ∙ get_or-set_other (row_of rows m) i b x d ne ∙ ap (λ n. item_at rows n b d) (sym e))
         | inl f ↦ elim (cases_lt i (length (row_of rows m))) [
-            | inl lt ↦ here e f lt (at ∙ ap (λ n. get_or (set (row_of rows m) i x) n d) f ∙ get_or-set_same (row_of rows m) i x d lt)
-            | inr past ↦
-                let long : length (set (row_of rows m) i x) ≤ b = let s = length-set (row_of rows m) i x in omega arith in
-                let long_before : length (row_of rows a) ≤ b = let s = ap (λ n. length (row_of rows n)) e in omega arith in
-                else (λ g h lt. absurd (omega arith)) (at ∙ get_or_past (set (row_of rows m) i x) b d long ∙ sym (get_or_past (row_of rows a) b d long_before))
-          ]
+          | inl lt ↦ here e f lt (at ∙ ap (λ n. get_or (set (row_of rows m) i x) n d) f ∙ get_or-set_same (row_of rows m) i x d lt)
+          | inr past ↦
+              let long : length (set (row_of rows m) i x) ≤ b = let s = length-set (row_of rows m) i x in omega arith in
+              let long_before : length (row_of rows a) ≤ b = let s = ap (λ n. length (row_of rows n)) e in omega arith in
+              else (λ g h lt. absurd (omega arith)) (at ∙ get_or_past (set (row_of rows m) i x) b d long ∙ sym (get_or_past (row_of rows a) b d long_before))
+        ]
       ]
 ]
 
@@ -118,16 +117,16 @@ module _ (p : Parts) (events : List Event) (e : Event) where
         let told : Contains next (Reached m i) = came (Reached m i) is in
         (λ h. (subst (λ x. IsInstr p x b) (sym f) (subst (IsInstr p m) (sym g) instr), subst (λ x. Contains next (Reached x b)) (sym f) (subst (λ y. Contains next (Reached m y)) (sym g) told)), λ h. at)
     | else ne at ↦ (
-        λ h. let o = (old a b).0 (sym at ∙ h) in (o.0, stays (Reached a b) o.1),
-        λ h. elim (came_or (Reached a b) h.1) [
-          | inl l ↦ at ∙ (old a b).1 (h.0, l)
-          | inr same ↦
-              let both : Reached m i ≡ Reached a b = sym is ∙ same in
-              let f : a ≡ m = cc in
-              let g : b ≡ i = cc in
-              absurd (ne f g (let s = items m in let l = below-size p a b h.0 in let t = ap (code_size p) f in omega arith))
-        ],
-      )
+      λ h. let o = (old a b).0 (sym at ∙ h) in (o.0, stays (Reached a b) o.1),
+      λ h. elim (came_or (Reached a b) h.1) [
+        | inl l ↦ at ∙ (old a b).1 (h.0, l)
+        | inr same ↦
+            let both : Reached m i ≡ Reached a b = sym is ∙ same in
+            let f : a ≡ m = cc in
+            let g : b ≡ i = cc in
+            absurd (ne f g (let s = items m in let l = below-size p a b h.0 in let t = ap (code_size p) f in omega arith))
+      ],
+    )
   ]
 
   -- a call that goes to a method
@@ -138,27 +137,29 @@ module _ (p : Parts) (events : List Event) (e : Event) where
   methods-more rows m i n goes items old a b k = elim (item-of rows m i (with_method (item_at rows m i no_targets) n) a b no_targets) [
     | here f g lt at ↦
         let methods : (item_at (with_listed_in rows m i (with_method (item_at rows m i no_targets) n)) a b no_targets).methods ≡ (item_at rows a b no_targets).methods ++ n ∷ [] =
-            ap (λ (t : Targets). t.methods) at ∙ ap (λ (t : Targets). t.methods ++ n ∷ []) (ap (λ x. item_at rows x i no_targets) (sym f) ∙ ap (λ y. item_at rows a y no_targets) (sym g)) in
-        let instr : IsInstr p a b = there p a b (let s = items m in let t = ap (code_size p) f in omega arith) in
-        (
-          λ h. (instr, elim (Contains-push_cases (item_at rows a b no_targets).methods n k (subst (λ (ms : List ℕ). Contains ms k) methods h)) [
-            | inl l ↦ told-on k ((old a b k).0 l).1
-            | inr same ↦ told-new k ((goes a b k).1 (f, g, same))
-          ]),
+        ap (λ (t : Targets). t.methods) at ∙ ap (λ (t : Targets). t.methods ++ n ∷ []) (ap (λ x. item_at rows x i no_targets) (sym f) ∙ ap (λ y. item_at rows a y no_targets) (sym g)) in
+        let instr : IsInstr p a b = there p a b (let s = items m in let t = ap (code_size p) f in omega arith) in (
+          λ h. (
+            instr,
+            elim (Contains-push_cases (item_at rows a b no_targets).methods n k (subst (λ (ms : List ℕ). Contains ms k) methods h)) [
+              | inl l ↦ told-on k ((old a b k).0 l).1
+              | inr same ↦ told-new k ((goes a b k).1 (f, g, same))
+            ],
+          ),
           λ h. subst (λ (ms : List ℕ). Contains ms k) (sym methods) (elim (came-in k h.1) [
             | inl l ↦ Contains-append_left (item_at rows a b no_targets).methods (n ∷ []) k ((old a b k).1 (h.0, l))
             | inr new ↦ subst (Contains ((item_at rows a b no_targets).methods ++ n ∷ [])) ((goes a b k).0 new).2 (Contains-push (item_at rows a b no_targets).methods n)
           ]),
         )
     | else ne at ↦ (
-        λ h. let o = (old a b k).0 (subst (λ (t : Targets). Contains t.methods k) at h) in (o.0, told-on k o.1),
-        λ h. elim (came-in k h.1) [
-          | inl l ↦ subst (λ (t : Targets). Contains t.methods k) (sym at) ((old a b k).1 (h.0, l))
-          | inr new ↦
-              let is = (goes a b k).0 new in
-              absurd (ne is.0 is.1 (let s = items m in let l = below-size p a b h.0 in let t = ap (code_size p) is.0 in let u = is.1 in omega arith))
-        ],
-      )
+      λ h. let o = (old a b k).0 (subst (λ (t : Targets). Contains t.methods k) at h) in (o.0, told-on k o.1),
+      λ h. elim (came-in k h.1) [
+        | inl l ↦ subst (λ (t : Targets). Contains t.methods k) (sym at) ((old a b k).1 (h.0, l))
+        | inr new ↦
+            let is = (goes a b k).0 new in
+            absurd (ne is.0 is.1 (let s = items m in let l = below-size p a b h.0 in let t = ap (code_size p) is.0 in let u = is.1 in omega arith))
+      ],
+    )
   ]
     where
       told-on : (k : ℕ) → Contains events (Calls a b k) ⊎ Contains events (CallsAbstract a b k) → Contains next (Calls a b k) ⊎ Contains next (CallsAbstract a b k)
@@ -178,7 +179,7 @@ module _ (p : Parts) (events : List Event) (e : Event) where
   library-kept rows m i n old a b = elim (item-of rows m i (with_method (item_at rows m i no_targets) n) a b no_targets) [
     | here f g lt at ↦
         let same : (item_at (with_listed_in rows m i (with_method (item_at rows m i no_targets) n)) a b no_targets).library ≡ (item_at rows a b no_targets).library =
-            ap (λ (t : Targets). t.library) at ∙ ap (λ (t : Targets). t.library) (ap (λ x. item_at rows x i no_targets) (sym f) ∙ ap (λ y. item_at rows a y no_targets) (sym g)) in
+        ap (λ (t : Targets). t.library) at ∙ ap (λ (t : Targets). t.library) (ap (λ x. item_at rows x i no_targets) (sym f) ∙ ap (λ y. item_at rows a y no_targets) (sym g)) in
         (λ h. (old a b).0 (sym same ∙ h), λ h. same ∙ (old a b).1 h)
     | else ne at ↦ (λ h. (old a b).0 (sym (ap (λ (t : Targets). t.library) at) ∙ h), λ h. ap (λ (t : Targets). t.library) at ∙ (old a b).1 h)
   ]
@@ -188,20 +189,21 @@ module _ (p : Parts) (events : List Event) (e : Event) where
   library-more rows m i is items old a b = elim (item-of rows m i (with_library (item_at rows m i no_targets)) a b no_targets) [
     | here f g lt at ↦
         let instr : IsInstr p m i = there p m i (let s = items m in omega arith) in
-        let told : Contains next (CallsLibrary m i) = came (CallsLibrary m i) is in
-        (λ h. (subst (λ x. IsInstr p x b) (sym f) (subst (IsInstr p m) (sym g) instr), subst (λ x. Contains next (CallsLibrary x b)) (sym f) (subst (λ y. Contains next (CallsLibrary m y)) (sym g) told)),
-        λ h. ap (λ (t : Targets). t.library) at)
+        let told : Contains next (CallsLibrary m i) = came (CallsLibrary m i) is in (
+          λ h. (subst (λ x. IsInstr p x b) (sym f) (subst (IsInstr p m) (sym g) instr), subst (λ x. Contains next (CallsLibrary x b)) (sym f) (subst (λ y. Contains next (CallsLibrary m y)) (sym g) told)),
+          λ h. ap (λ (t : Targets). t.library) at,
+        )
     | else ne at ↦ (
-        λ h. let o = (old a b).0 (sym (ap (λ (t : Targets). t.library) at) ∙ h) in (o.0, stays (CallsLibrary a b) o.1),
-        λ h. elim (came_or (CallsLibrary a b) h.1) [
-          | inl l ↦ ap (λ (t : Targets). t.library) at ∙ (old a b).1 (h.0, l)
-          | inr same ↦
-              let both : CallsLibrary m i ≡ CallsLibrary a b = sym is ∙ same in
-              let f : a ≡ m = cc in
-              let g : b ≡ i = cc in
-              absurd (ne f g (let s = items m in let l = below-size p a b h.0 in let t = ap (code_size p) f in omega arith))
-        ],
-      )
+      λ h. let o = (old a b).0 (sym (ap (λ (t : Targets). t.library) at) ∙ h) in (o.0, stays (CallsLibrary a b) o.1),
+      λ h. elim (came_or (CallsLibrary a b) h.1) [
+        | inl l ↦ ap (λ (t : Targets). t.library) at ∙ (old a b).1 (h.0, l)
+        | inr same ↦
+            let both : CallsLibrary m i ≡ CallsLibrary a b = sym is ∙ same in
+            let f : a ≡ m = cc in
+            let g : b ≡ i = cc in
+            absurd (ne f g (let s = items m in let l = below-size p a b h.0 in let t = ap (code_size p) f in omega arith))
+      ],
+    )
   ]
 
   -- where it goes does not change by that
@@ -209,7 +211,7 @@ module _ (p : Parts) (events : List Event) (e : Event) where
   methods-kept rows m i old a b k = elim (item-of rows m i (with_library (item_at rows m i no_targets)) a b no_targets) [
     | here f g lt at ↦
         let same : (item_at (with_listed_in rows m i (with_library (item_at rows m i no_targets))) a b no_targets).methods ≡ (item_at rows a b no_targets).methods =
-            ap (λ (t : Targets). t.methods) at ∙ ap (λ (t : Targets). t.methods) (ap (λ x. item_at rows x i no_targets) (sym f) ∙ ap (λ y. item_at rows a y no_targets) (sym g)) in
+        ap (λ (t : Targets). t.methods) at ∙ ap (λ (t : Targets). t.methods) (ap (λ x. item_at rows x i no_targets) (sym f) ∙ ap (λ y. item_at rows a y no_targets) (sym g)) in
         (λ h. (old a b k).0 (subst (λ (ms : List ℕ). Contains ms k) same h), λ h. subst (λ (ms : List ℕ). Contains ms k) (sym same) ((old a b k).1 h))
     | else ne at ↦ (λ h. (old a b k).0 (subst (λ (t : Targets). Contains t.methods k) at h), λ h. subst (λ (t : Targets). Contains t.methods k) (sym at) ((old a b k).1 h))
   ]
@@ -268,18 +270,6 @@ noted-other p events e notes nr nc na nl noted = record {
 -- the first so many events and the next
 pub take-event : (events : List Event) (k : ℕ) (e : Event) → slice_get events k ≡ Some e → take (k + 1) events ≡ take k events ++ e ∷ []
 take-event events k e at = take_more events k e (slice_get_within events k e at) ∙ ap (λ x. take k events ++ x ∷ []) (get_or_from_slice_get events k e e at)
-
--- there is no event any more
-pub all-events : (events : List Event) (k : ℕ) → slice_get events k ≡ None → take k events ≡ events
-all-events events k none = take_all k events (elim (cases_lt k (length events)) [
-  | inr le ↦ le
-  | inl lt ↦ absurd (no-item events k lt none)
-])
-  where
-    no-item : (es : List Event) (j : ℕ) → j < length es → slice_get es j ≡ None → ⊥
-    no-item [] j l h = absurd (omega arith)
-    no-item (e ∷ es) zero l h = cc
-    no-item (e ∷ es) (suc j) l h = no-item es j (omega arith) h
 
 -- ---- no event
 

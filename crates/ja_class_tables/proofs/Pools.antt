@@ -1,22 +1,17 @@
 -- A pool that grows keeps its names.
-use Rattle.std.proofs.Common.{◌≡◌, ℕ, zero, suc, ◌+◌, ◌<◌, ◌≤◌, ◌^◌, inl, inr, Bool, true, false, List, [], ◌∷◌, ◌++◌, Option, Some, None, cond, length, get_or, refl, sym, ap, subst, ◌∙◌, arith}
+use Rattle.std.proofs.Common.{◌≡◌, ℕ, zero, suc, inl, inr, Bool, List, [], ◌∷◌, ◌++◌, Option, Some, None, cond, length, refl, sym, ap, subst, ◌∙◌}
 use Rattle.std.specs.Prelude.{slice_get, Result, Ok, Err, OnOk}
-use Rattle.std.specs.List.{AllZip}
 use Rattle.std.specs.HashMap.{get, Updates}
 use Rattle.std.proofs.lemmas.Bool.{cases_Bool}
-use Rattle.std.proofs.lemmas.List.{length_push, get_or_at}
-use Rattle.std.proofs.lemmas.Option.{slice_get_within, get_or_from_slice_get, same_Some, none-some}
-use Rattle.ja_ir.specs.declared.program.Parts.{Parts}
+use Rattle.std.proofs.lemmas.Option.{same_Some}
 use Rattle.ja_facts.specs.FactTables.{GraphTable}
 use Rattle.ja_network.specs.declared.cell.Cell.{Cell}
 use Rattle.ja_network.specs.declared.network.Network.{Network}
-use Rattle.ja_network.specs.Facts.{HasToken, Tells, same_cell}
+use Rattle.ja_network.specs.Facts.{same_cell}
 use Rattle.ja_class_tables.proofs.Cells.{cell_is}
 use Rattle.ja_cells.specs.Names.{Names}
 use Rattle.ja_class_tables.specs.declared.pool.Pool.{Pool}
-use Rattle.ja_class_tables.specs.declared.numbers.Part.{Part}
-use Rattle.ja_class_tables.specs.Reads.{HasExactly}
-use Rattle.ja_class_tables.specs.InnerPool.{IsSetOf, IsNamed, Grows, AreSets, IsPool, AreNamed, IsNumber, cells_before, row_of, AreRowsNamed, AreSlotsNamed}
+use Rattle.ja_class_tables.specs.InnerPool.{IsNamed, Grows, AreSets, IsPool, AreNamed, IsNumber, cells_before, row_of, AreRowsNamed}
 
 -- an item stays where the list gets one more
 front : {A : Type 0} (xs : List A) (y x : A) (k : ℕ) → slice_get xs k ≡ Some x → slice_get (xs ++ y ∷ []) k ≡ Some x

@@ -1,5 +1,5 @@
 -- The sets of parameters, results, fields and bags, one more written.
-use Rattle.std.proofs.Common.{◌≡◌, ◌≢◌, ℕ, zero, suc, ◌+◌, ◌<◌, ◌≤◌, inl, inr, Bool, true, false, List, [], ◌∷◌, Option, Some, None, length, map, replicate, get_or, set, refl, sym, ap, subst, ◌∙◌, arith}
+use Rattle.std.proofs.Common.{◌≡◌, ℕ, zero, suc, ◌+◌, ◌<◌, ◌≤◌, inl, inr, Bool, true, false, List, [], ◌∷◌, Some, length, map, replicate, get_or, set, refl, sym, ap, subst, ◌∙◌, arith}
 use Rattle.std.specs.Prelude.{slice_get}
 use Rattle.std.proofs.lemmas.Bool.{cases_lt, cases_eq}
 use Rattle.std.proofs.lemmas.List.{get_or-set_same, get_or-set_other, get_or_past, length-set, length-replicate, set_past}
@@ -11,7 +11,7 @@ use Rattle.ja_ir.specs.Operations.{count_of}
 use Rattle.ja_ir.specs.Params.{param_count, params_among}
 use Rattle.ja_ir.specs.Whole.{IsWhole}
 use Rattle.ja_constraints.proofs.Few.{few-method-types}
-use Rattle.ja_facts.specs.ClassTables.{ClassTable, token_count, empty_classes}
+use Rattle.ja_facts.specs.ClassTables.{ClassTable, token_count}
 use Rattle.ja_facts.specs.Listing.{with_listed_in}
 use Rattle.ja_network.specs.declared.cell.Cell.{Cell}
 use Rattle.ja_network.specs.declared.cell.Cell.TheVariants.{Field, Bag, Param, Answer, Out}

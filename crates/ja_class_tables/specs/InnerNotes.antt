@@ -1,16 +1,13 @@
 -- What is noted of the events that happen.
-use Rattle.std.specs.Prelude.{◌≡◌, ◌⊎◌, ◌↔◌, ℕ, suc, ◌<◌, Bool, true, false, List, [], ◌∷◌, ◌++◌, Some, Contains, length, slice_get, slice_index_or, IsTrue}
+use Rattle.std.specs.Prelude.{◌≡◌, ◌⊎◌, ◌↔◌, ℕ, suc, true, List, [], ◌∷◌, ◌++◌, Some, Contains, length, slice_get, slice_index_or}
 use Rattle.std.specs.List.Sorted.{IsNonDecreasing}
 use Rattle.ja_ir.specs.declared.program.Parts.{Parts}
 use Rattle.ja_ir.specs.Lookup.{code_of}
 use Rattle.ja_facts.specs.declared.targets.Targets.{Targets}
 use Rattle.ja_facts.specs.ClassTables.{token_count, no_members}
-use Rattle.ja_facts.specs.FactTables.{GraphTable, is_reached, no_targets}
-use Rattle.ja_facts.specs.Listing.{with_listed_in}
+use Rattle.ja_facts.specs.FactTables.{is_reached, no_targets}
 use Rattle.ja_network.specs.declared.cell.Event.{Event}
 use Rattle.ja_network.specs.declared.cell.Event.TheVariants.{Reached, Calls, CallsAbstract, CallsLibrary}
-use Rattle.ja_network.specs.declared.network.Network.{Network}
-use Rattle.ja_network.specs.Facts.{events_of}
 use Rattle.ja_class_tables.specs.declared.notes.Notes.{Notes}
 use Rattle.ja_class_tables.specs.Reads.{IsInstr}
 

@@ -10,7 +10,6 @@ use Rattle.ja_sets.specs.Sets.{Has}
 use Rattle.ja_facts.specs.ClassTables.{ClassTable, token_count, slot_set, thrown_set, param_set, result_set, out_set, field_set, bag_set}
 use Rattle.ja_facts.specs.FactTables.{GraphTable, is_reached, targets_at, takers_at}
 use Rattle.ja_facts.specs.Told.{IsCallAt}
-use Rattle.ja_network.specs.declared.cell.Cell.{Cell}
 use Rattle.ja_network.specs.declared.cell.Cell.TheVariants.{Field, Bag, Param, Answer, Out, Thrown, Takers}
 use Rattle.ja_network.specs.declared.cell.Event.TheVariants.{Reached, Calls, CallsAbstract, CallsLibrary}
 use Rattle.ja_network.specs.declared.network.Network.{Network}

@@ -1,8 +1,4 @@
-use Rattle.std.proofs.Common.{◌≡◌, ◌<◌, ◌≤◌, ◌∙◌, ℕ, List, Some, length, refl, sym, ap, subst, arith}
-use Rattle.std.specs.Prelude.{slice_get}
-use Rattle.std.proofs.lemmas.Option.{slice_get_read}
-use Rattle.ja_ir.specs.declared.method.Method.{Method}
-use Rattle.ja_ir.specs.Params.{param_count}
+use Rattle.std.proofs.Common.{◌∙◌, length, refl, sym, ap, subst, arith}
 use Rattle.ja_facts.specs.ClassTables.{ClassTable, token_count, no_members}
 use Rattle.ja_class_tables.specs.InnerPool.{row_of}
 use Rattle.ja_class_tables.specs.InnerMembers.{params_in, PutsParams}

@@ -1,7 +1,5 @@
-use Rattle.std.proofs.Common.{◌≡◌, ◌<◌, ◌≤◌, ◌+◌, ◌∙◌, List, [], Option, Some, length, refl, ap, subst, arith}
-use Rattle.std.specs.Prelude.{slice_get}
+use Rattle.std.proofs.Common.{◌<◌, ◌≤◌, ◌+◌, ◌∙◌, List, Option, length, ap, subst, arith}
 use Rattle.std.proofs.lemmas.List.{length_push}
-use Rattle.std.proofs.lemmas.Option.{slice_get_read}
 use Rattle.ja_ir.specs.declared.method.Instr.{Instr}
 use Rattle.ja_network.specs.declared.cell.Cell.{Cell}
 use Rattle.ja_cells.proofs.Naming.{few-instructions}

@@ -1,4 +1,4 @@
-use Rattle.std.proofs.Common.{◌≡◌, ◌↔◌, ◌∙◌, ◌++◌, ◌∷◌, [], ℕ, List, Some, length, refl, ap, subst, sym, arith}
+use Rattle.std.proofs.Common.{◌≡◌, ◌↔◌, ◌∙◌, ◌++◌, ◌∷◌, [], ℕ, List, Some, refl, ap, subst, sym, arith}
 use Rattle.std.specs.Prelude.{Contains, slice_get}
 use Rattle.ja_facts.specs.declared.targets.Targets.{Targets}
 use Rattle.ja_class_tables.specs.InnerNotes.{somewhere}
@@ -12,7 +12,7 @@ returns-clause-said c =
     let sorted : Targets = record { methods = c.in_ok-methods.methods; library = targets.library } in
     let place = c.len-place.result in
     let at : slice_get c.push.new.self place ≡ Some sorted =
-        ap (λ (ts : List Targets). slice_get ts place) c.in_ok-push.ensures.ok ∙ subst (λ k. slice_get (old ++ sorted ∷ []) k ≡ Some sorted) (sym c.len-place.ensures) (last old sorted) in
+    ap (λ (ts : List Targets). slice_get ts place) c.in_ok-push.ensures.ok ∙ subst (λ k. slice_get (old ++ sorted ∷ []) k ≡ Some sorted) (sym c.len-place.ensures) (last old sorted) in
     somewhere place sorted (omega arith) at (record {
       methods = subst (λ (ns : List ℕ). (n : ℕ) → Contains c.in_ok-methods.methods n ↔ Contains ns n) c.as_slice.ensures c.in_ok-methods.ensures.same;
       ascending = c.in_ok-methods.ensures.ascending;
