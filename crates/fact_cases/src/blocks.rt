@@ -4,8 +4,8 @@ ghost use Rattle.ja_ir.specs.Blocks.{StaysInside};
 
 use ja_base::{ClassId, Desc, Kind, Memory, Name, Seq};
 use ja_ir::{
-    CallKind, CallOp, Instr, Instrs, LibRow, Method, Op, RowEffect, RowFlow, RowResult, Successors,
-    blocks_of,
+    Block, CallKind, CallOp, Instr, Instrs, LibRow, Method, Op, RowEffect, RowFlow, RowResult,
+    Successors, blocks_of,
 };
 use std::alloc::Global;
 
@@ -125,9 +125,14 @@ fn recursive(alloc: Global) -> Result<Method, Memory>
 pub fn add_blocks(out: &mut String, alloc: Global) -> Result<(), Memory> {
     let method = recursive(alloc)?;
     let blocks = blocks_of(alloc, &method)?;
+    add_places(out, method.code.as_slice(), blocks.as_slice())
+}
+
+/// Adds where blocks begin.
+fn add_places(out: &mut String, code: &[Instr], blocks: &[Block]) -> Result<(), Memory> {
     write!(out, "blocks {} at", blocks.len())?;
-    for block in blocks.as_slice() {
-        if let Some(instr) = method.code.as_slice().get(block.first as usize) {
+    for block in blocks {
+        if let Some(instr) = code.get(block.first as usize) {
             write!(out, " {}", instr.pc)?;
         }
     }

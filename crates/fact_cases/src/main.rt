@@ -1,11 +1,16 @@
-//! Fills the tables of facts of a small program, and prints what they answer.
+//! Fills the tables of facts of a small program, and prints what they answer; then counts what the ends of each
+//! operation make.
 //!
 //! First come the sets and names of the stored input, which says how its lines are read. The tables are those of
-//! the program of `sample`.
+//! the program of `sample`. The last lines are those of `ends`.
+//!
+//! A function that holds a table gives its answers to another one to print: each place where a function can end
+//! early, while it has something to let go, makes its proof dearer.
 #![tactic(auto)]
 
 mod blocks;
 mod classes;
+mod ends;
 mod heap;
 mod sample;
 mod small;
@@ -14,6 +19,7 @@ mod tables;
 ghost use Rattle.std.specs.Prelude.{◌≡◌};
 ghost use Rattle.ja_ir.specs.Sample.{sample};
 
+use ends::lines;
 use ja_base::Memory;
 use ja_ir::Program;
 use sample::sample;
@@ -60,7 +66,11 @@ fn add_heaps(out: &mut String, alloc: Global, program: &Program) -> Result<(), M
 fn main(rt: HostRuntime) -> io::Result<()> {
     let alloc = rt.alloc();
     let text = io::read_to_string(alloc, rt.reader())?;
-    for told in [small_text(alloc, text.as_str()), facts_text(alloc)] {
+    for told in [
+        small_text(alloc, text.as_str()),
+        facts_text(alloc),
+        lines(alloc),
+    ] {
         print!(rt;
             "{}",
             told.as_ref()

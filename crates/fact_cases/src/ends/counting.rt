@@ -1,6 +1,6 @@
 //! How many pairs ends make.
-use crate::case::{Before, Case};
-use crate::operation::operation;
+use crate::ends::case::{Before, Case};
+use crate::ends::operation::operation;
 use ja_base::Memory;
 use ja_ir::Op;
 use plain_ends::{Frame, Known, Point, Relation, Slot, normal_ends, thrown_ends};

@@ -1,4 +1,4 @@
-use crate::row::library_call;
+use crate::ends::row::library_call;
 use ja_base::{FieldId, Kind, Memory, Name, Numbers};
 use ja_ir::{Op, Token};
 use std::alloc::Global;

@@ -6,8 +6,6 @@
 //! reaches it or has a pair with it. The line before the last is of a read of a field of what
 //! a field has: of the pairs that both make, one after the other. The last line is of the returns and the throws of a method, by two
 //! summaries of it that differ in the result alone: its argument is true, and the local has a pair with what it may change.
-#![tactic(auto)]
-
 mod case;
 mod counting;
 mod operation;
@@ -19,10 +17,9 @@ use counting::{add_case, add_twice};
 use ja_base::Memory;
 use returning::add_returns;
 use std::alloc::Global;
-use std::io;
 
 /// All lines.
-fn lines(alloc: Global) -> Result<String, Memory> {
+pub fn lines(alloc: Global) -> Result<String, Memory> {
     let mut out = String::new(alloc);
     for number in 0..CASES.len() {
         add_case(&mut out, alloc, number, CASES[number])?;
@@ -30,13 +27,4 @@ fn lines(alloc: Global) -> Result<String, Memory> {
     add_twice(&mut out, alloc)?;
     add_returns(&mut out, alloc)?;
     Ok(out)
-}
-
-fn main(rt: HostRuntime) -> io::Result<()> {
-    print!(rt;
-        "{}",
-        lines(rt.alloc())
-            .as_ref()
-            .map_or("out of memory\n", |text| text.as_str())
-    )
 }

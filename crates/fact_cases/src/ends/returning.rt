@@ -1,5 +1,5 @@
 //! How a method's returns and throws lead on.
-use crate::counting::frame;
+use crate::ends::counting::frame;
 use ja_base::Memory;
 use plain_ends::{Call, Slot, Summary, returns};
 use std::alloc::Global;
