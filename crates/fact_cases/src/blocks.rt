@@ -1,5 +1,5 @@
 //! Blocks of a method.
-ghost use Rattle.std.specs.Prelude.{◌≡◌, ◌+◌, ◌<◌, ◌≤◌, All, IfOk, OnOk, length};
+ghost use Rattle.std.specs.Prelude.{◌≡◌, ◌+◌, ◌<◌, ◌≤◌, [], All, IfOk, OnOk, length};
 ghost use Rattle.ja_ir.specs.Blocks.{StaysInside};
 
 use ja_base::{ClassId, Desc, Kind, Memory, Name, Seq};
@@ -81,14 +81,23 @@ fn add_hand_over(code: &mut Instrs, alloc: Global) -> Result<(), Memory>
     add(code, alloc, 13, Op::Return(Some(Kind::R)), &[])
 }
 
+/// Adds all instructions of the method.
+fn add_code(code: &mut Instrs, alloc: Global) -> Result<(), Memory>
+    requires { code.old ≡ [] }
+    ensures inside { OnOk result (All (λ instr. All (λ j. j < 8) instr.next) code.new) }
+    ensures size { OnOk result (length code.new ≡ 8) }
+{
+    add_return(code, alloc)?;
+    add_hand_over(code, alloc)
+}
+
 /// The code of the method.
 fn code(alloc: Global) -> Result<Instrs, Memory>
     ensures inside { IfOk result (λ code. All (λ instr. All (λ j. j < 8) instr.next) code) }
     ensures size { IfOk result (λ code. length code ≡ 8) }
 {
     let mut code: Instrs = Seq::new(alloc);
-    add_return(&mut code, alloc)?;
-    add_hand_over(&mut code, alloc)?;
+    add_code(&mut code, alloc)?;
     Ok(code)
 }
 

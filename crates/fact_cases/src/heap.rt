@@ -43,11 +43,11 @@ fn array_of_marked_text(alloc: Global) -> Result<Heap, Memory>
 /// Adds what is reached in the heap, and what is tainted.
 pub fn add_heap(out: &mut String, alloc: Global) -> Result<(), Memory> {
     let heap = array_of_marked_text(alloc)?;
-    add_taints(out, alloc, &heap)
+    add_reached(out, alloc, &heap)
 }
 
 /// Adds what is reached in a heap of two objects, and what is tainted.
-fn add_taints(out: &mut String, alloc: Global, heap: &Heap) -> Result<(), Memory>
+fn add_reached(out: &mut String, alloc: Global, heap: &Heap) -> Result<(), Memory>
     requires closed { IsClosed heap.now }
     requires size { length heap.now ≡ 2 }
 {
@@ -55,11 +55,19 @@ fn add_taints(out: &mut String, alloc: Global, heap: &Heap) -> Result<(), Memory
     let up = reaches(alloc, heap, 1, 0)?;
     let same = reaches(alloc, heap, 1, 1)?;
     writeln!(out, "reaches {down} {up} {same}")?;
+    add_taints(out, alloc, heap)?;
+    add_categories(out, alloc, heap)
+}
+
+/// Adds what is tainted in a heap of two objects.
+fn add_taints(out: &mut String, alloc: Global, heap: &Heap) -> Result<(), Memory>
+    requires closed { IsClosed heap.now }
+    requires size { length heap.now ≡ 2 }
+{
     let array = tainted(alloc, heap, &Value::Ref(0), 0)?;
     let null = tainted(alloc, heap, &Value::Null, 0)?;
     let number = tainted(alloc, heap, &Value::Prim(1), 0)?;
-    writeln!(out, "tainted {array} {null} {number}")?;
-    add_categories(out, alloc, heap)
+    Ok(writeln!(out, "tainted {array} {null} {number}")?)
 }
 
 /// Adds that a mark is of its category alone.

@@ -30,14 +30,26 @@ use std::io;
 /// What comes of the blocks, the heap and the tables, as lines.
 fn facts_text(alloc: Global) -> Result<String, Memory> {
     let mut out = String::new(alloc);
-    blocks::add_blocks(&mut out, alloc)?;
-    heap::add_heap(&mut out, alloc)?;
-    tables::add_rows(&mut out, alloc)?;
-    tables::add_variables(&mut out)?;
-    let program = sample(alloc)?;
-    add_sets(&mut out, alloc, &program)?;
-    add_heaps(&mut out, alloc, &program)?;
+    add_facts(&mut out, alloc)?;
     Ok(out)
+}
+
+/// Adds what comes of the blocks, the heap and the tables.
+fn add_facts(out: &mut String, alloc: Global) -> Result<(), Memory> {
+    blocks::add_blocks(out, alloc)?;
+    heap::add_heap(out, alloc)?;
+    tables::add_rows(out, alloc)?;
+    tables::add_variables(out)?;
+    let program = sample(alloc)?;
+    add_tables(out, alloc, &program)
+}
+
+/// Adds what the tables of the program say.
+fn add_tables(out: &mut String, alloc: Global, program: &Program) -> Result<(), Memory>
+    requires { program.now ≡ sample }
+{
+    add_sets(out, alloc, program)?;
+    add_heaps(out, alloc, program)
 }
 
 /// Adds what the class sets and the call graph say.

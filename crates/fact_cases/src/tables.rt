@@ -60,9 +60,12 @@ pub fn add_variables(out: &mut String) -> Result<(), Memory> {
     Ok(writeln!(out, "variables {numbers:?}")?)
 }
 
-/// What the graph says of an instruction: whether it is reached, the number of its targets, whether the
+/// What a graph says of an instruction: whether it is reached, the number of its targets, whether the
 /// library is one, and the least taker.
-fn said(graph: &CallGraph, m: MethodId, i: u32) -> (bool, u64, bool, Option<u32>) {
+type Said = (bool, u64, bool, Option<u32>);
+
+/// What the graph says of an instruction.
+fn said(graph: &CallGraph, m: MethodId, i: u32) -> Said {
     let targets = graph.targets(m, i);
     let taker = graph.takers(m, i).next_from(0);
     (
@@ -80,15 +83,22 @@ fn reach_two(graph: &mut CallGraph) -> [bool; 3]
     [graph.add(MAIN, 1), graph.add(MAIN, 1), graph.add(MEMBER, 0)]
 }
 
-/// Adds what the call graph says at first, and what it answers to instructions that may run.
-pub fn add_reached(out: &mut String, alloc: Global, program: &Program) -> Result<(), Memory>
+/// What the call graph says of an instruction at first, and what it answers to instructions that may run.
+fn reached(alloc: Global, program: &Program) -> Result<(Said, [bool; 3]), Memory>
     requires { program.now ≡ sample }
 {
     let mut graph = CallGraph::new(alloc, program)?;
     let before = said(&graph, MAIN, 1);
     let added = reach_two(&mut graph);
+    Ok((before, added))
+}
+
+/// Adds what the call graph says at first, and what it answers to instructions that may run.
+pub fn add_reached(out: &mut String, alloc: Global, program: &Program) -> Result<(), Memory>
+    requires { program.now ≡ sample }
+{
+    let (before, [first, again, other]) = reached(alloc, program)?;
     writeln!(out, "graph {before:?}")?;
-    let [first, again, other] = added;
     Ok(writeln!(out, "graph added {first} {again} {other}")?)
 }
 
@@ -97,9 +107,16 @@ pub fn add_calls(out: &mut String, alloc: Global, program: &Program) -> Result<(
     requires { program.now ≡ sample }
 {
     let mut graph = CallGraph::new(alloc, program)?;
-    let _added = reach_two(&mut graph);
-    share_calls(alloc, &mut graph)?;
-    add_said(out, &graph)
+    add_called(out, alloc, &mut graph)
+}
+
+/// Adds what an empty graph says of some instructions, after writes.
+fn add_called(out: &mut String, alloc: Global, graph: &mut CallGraph) -> Result<(), Memory>
+    requires { graph.old ≡ empty_graph sample }
+{
+    let _added = reach_two(graph);
+    share_calls(alloc, graph)?;
+    add_said(out, graph)
 }
 
 /// Names a target and a taker for instruction 1 of the main method.

@@ -1,6 +1,6 @@
 //! How many pairs ends make.
 use crate::ends::case::{Before, Case};
-use crate::ends::operation::operation;
+use crate::ends::operation::{operation, reading};
 use ja_base::Memory;
 use ja_ir::Op;
 use plain_ends::{Frame, Known, Point, Relation, Slot, normal_ends, thrown_ends};
@@ -71,8 +71,8 @@ pub fn add_case(out: &mut String, alloc: Global, number: usize, case: Case) -> R
 
 /// The pairs of a read of a field.
 fn field_read(alloc: Global) -> Result<Relation, Memory> {
-    let op = operation(alloc, 13)?;
     let known = known(alloc, Before::Nothing)?;
+    let op = reading(13);
     let point = Point {
         op: &op,
         height: 1,

@@ -35,7 +35,7 @@ fn making(number: usize) -> Op {
 }
 
 /// The operations that read, write or end a method.
-fn reading(number: usize) -> Op {
+pub fn reading(number: usize) -> Op {
     match number {
         13 => Op::GetField(FieldId(0)),
         14 => Op::ArrLoad(Kind::R),
