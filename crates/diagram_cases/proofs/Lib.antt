@@ -1,1 +1,1 @@
-mod Pooled
+pub mod Known
