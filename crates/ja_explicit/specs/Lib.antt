@@ -1,0 +1,6 @@
+pub mod Given
+pub mod Tables
+pub mod InnerWords
+pub mod InnerSteps
+pub mod InnerStarts
+pub mod InnerRules
