@@ -1,2 +1,3 @@
-pub mod Words
+pub mod Worded
 pub mod Quiet
+pub mod Lists

@@ -25,7 +25,7 @@ use Rattle.ja_work.specs.Ends.{Tests, meets_by, taking, changed, local_after, pu
 use Rattle.ja_work.specs.Told.{number_of, has_numbers, has_slots, has_statics, set_at, tests_of, affected_of, changes_param, changes_statics}
 use Rattle.ja_work.proofs.Fitting.{moved_fits, fits_moved, constant_fits, fits_constant}
 use Rattle.ja_explicit.specs.InnerWords.{says}
-use Rattle.ja_explicit.proofs.Words.{is_inside, none_outside, value_outside, IsQuiet}
+use Rattle.ja_explicit.proofs.Worded.{is_inside, none_outside, value_outside, IsQuiet}
 
 -- what is not true is false
 pub is_false : (c : Bool) → (c ≡ true → ⊥) → c ≡ false

@@ -1,6 +1,7 @@
 -- The clauses that the code's rules stand for.
 use Rattle.std.specs.Prelude.{◌≡◌, ◌<◌, ℕ, Some, map, length, slice_get}
 use Rattle.ja_ir.specs.declared.program.Parts.{Parts}
+use Rattle.ja_ir.specs.Operations.{FindsOperands}
 use Rattle.ja_facts.specs.declared.facts.Facts.{Facts}
 use Rattle.ja_work.specs.declared.clause.Spot.{Spot}
 use Rattle.ja_work.specs.declared.clause.Clause.{Clause}
@@ -27,9 +28,19 @@ clauses_of Caught = caught_clauses
 clauses_of (Handed h) = handed_clauses h.callee.now h.count h.under (says h.caller.now h.word)
 clauses_of (Opened o) = opened_clauses o.method.now (may_be_true o.program.now o.facts.now (items_of o.table.now) o.entry.now o.method.now)
 
+-- an operation of the rule finds its operands
+abbrev pub IsReady : Rule → Type 0
+IsReady (Normal here) = FindsOperands here.op.now here.height
+IsReady (Exceptional here way) = FindsOperands here.op.now here.height
+IsReady (Returns through answers summary) = Unit {0}
+IsReady (Throws through summary) = Unit {0}
+IsReady Caught = Unit {0}
+IsReady (Handed h) = Unit {0}
+IsReady (Opened o) = Unit {0}
+
 -- where the code stands
 abbrev pub standing : code.Standing → Standing
-standing s = record { method = s.method.now; m = s.m; a = s.entry; b = s.now }
+standing s = record { method = s.method.now; m = s.m; a = s.entry; b = s.word }
 
 
 -- the way through a method that the code goes

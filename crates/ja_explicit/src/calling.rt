@@ -30,15 +30,15 @@ fn add_initializes_by(
     p: &Program,
     facts: &Facts,
     table: &Table,
-    standing_at: Standing,
+    standing_at: &Standing,
     i: u32,
     height: u32,
     n: MethodId,
 ) -> Result<(), Memory>
     requires shaped { AreShaped p.now facts.now }
-    requires stands { StandsAt p.now standing_at i }
+    requires stands { StandsAt p.now standing_at.now i }
     requires callee { n.0 < length p.now.methods }
-    ensures { OnOk result (out.new ≡ out.old ++ steps.goes_through (items_of table.now) (standing standing_at) (steps.init_passage p.now facts.now standing_at.m i height n.0)) }
+    ensures { OnOk result (out.new ≡ out.old ++ steps.goes_through (items_of table.now) (standing standing_at.now) (steps.init_passage p.now facts.now standing_at.now.m i height n.0)) }
 {
     let way = Passage {
         n: n.0 as u64,
@@ -58,14 +58,14 @@ pub fn add_initializes(
     p: &Program,
     facts: &Facts,
     table: &Table,
-    standing_at: Standing,
+    standing_at: &Standing,
     i: u32,
     height: u32,
     op: &Op,
 ) -> Result<(), Memory>
     requires shaped { AreShaped p.now facts.now }
-    requires stands { StandsAt p.now standing_at i }
-    ensures { OnOk result (out.new ≡ out.old ++ steps.initializes p.now facts.now (items_of table.now) (standing standing_at) i height (inits_of p.now op.now)) }
+    requires stands { StandsAt p.now standing_at.now i }
+    ensures { OnOk result (out.new ≡ out.old ++ steps.initializes p.now facts.now (items_of table.now) (standing standing_at.now) i height (inits_of p.now op.now)) }
 {
     let _whole = p.methods();
     for n in p.inits_of(op) {
@@ -81,7 +81,7 @@ fn add_calls_with(
     p: &Program,
     facts: &Facts,
     table: &Table,
-    standing_at: Standing,
+    standing_at: &Standing,
     i: u32,
     next: &[u64],
     places: &[ThrownTo],
@@ -91,10 +91,10 @@ fn add_calls_with(
     words: &[u32],
 ) -> Result<(), Memory>
     requires shaped { AreShaped p.now facts.now }
-    requires stands { StandsAt p.now standing_at i }
+    requires stands { StandsAt p.now standing_at.now i }
     requires callee { n < length p.now.methods }
     requires fits { under + operations.arguments call.now < 2 ^ 32 }
-    ensures { OnOk result (out.new ≡ out.old ++ steps.calls_with p.now facts.now (items_of table.now) (standing standing_at) i next.now (map place_meant places.now) call.now under n words.now) }
+    ensures { OnOk result (out.new ≡ out.old ++ steps.calls_with p.now facts.now (items_of table.now) (standing standing_at.now) i next.now (map place_meant places.now) call.now under n words.now) }
 {
     let count = arguments(call) as u32;
     let through = Through::of(p, facts, MethodId(standing_at.m), i, MethodId(n), count, under);
@@ -119,7 +119,7 @@ fn add_calls_method(
     p: &Program,
     facts: &Facts,
     table: &Table,
-    standing_at: Standing,
+    standing_at: &Standing,
     i: u32,
     next: &[u64],
     places: &[ThrownTo],
@@ -130,10 +130,10 @@ fn add_calls_method(
 ) -> Result<(), Memory>
     requires shaped { AreShaped p.now facts.now }
     requires narrow { AreNarrow p.now }
-    requires stands { StandsAt p.now standing_at i }
+    requires stands { StandsAt p.now standing_at.now i }
     requires callee { slice_get p.now.methods n ≡ Some callee.now }
     requires fits { under + operations.arguments call.now < 2 ^ 32 }
-    ensures { OnOk result (out.new ≡ out.old ++ steps.calls_method p.now facts.now (items_of table.now) (standing standing_at) i next.now (map place_meant places.now) call.now under n (Some callee.now)) }
+    ensures { OnOk result (out.new ≡ out.old ++ steps.calls_method p.now facts.now (items_of table.now) (standing standing_at.now) i next.now (map place_meant places.now) call.now under n (Some callee.now)) }
 {
     if callee.code.is_empty() {
         return Ok(());
@@ -143,9 +143,9 @@ fn add_calls_method(
         count: arguments(call) as u32,
         under,
         caller: standing_at.method,
-        word: standing_at.now,
+        word: standing_at.word,
     });
-    let words = next_words(alloc, callee, &rule, standing_at.method, standing_at.now)?;
+    let words = next_words(alloc, callee, &rule, standing_at.method, standing_at.word)?;
     add_calls_with(
         alloc,
         out,
@@ -170,7 +170,7 @@ fn add_calls_target(
     p: &Program,
     facts: &Facts,
     table: &Table,
-    standing_at: Standing,
+    standing_at: &Standing,
     i: u32,
     next: &[u64],
     places: &[ThrownTo],
@@ -180,9 +180,9 @@ fn add_calls_target(
 ) -> Result<(), Memory>
     requires shaped { AreShaped p.now facts.now }
     requires narrow { AreNarrow p.now }
-    requires stands { StandsAt p.now standing_at i }
+    requires stands { StandsAt p.now standing_at.now i }
     requires fits { under + operations.arguments call.now < 2 ^ 32 }
-    ensures { OnOk result (out.new ≡ out.old ++ steps.calls_method p.now facts.now (items_of table.now) (standing standing_at) i next.now (map place_meant places.now) call.now under n (slice_get p.now.methods n)) }
+    ensures { OnOk result (out.new ≡ out.old ++ steps.calls_method p.now facts.now (items_of table.now) (standing standing_at.now) i next.now (map place_meant places.now) call.now under n (slice_get p.now.methods n)) }
 {
     if n >= p.methods().len() {
         return Ok(());
@@ -200,7 +200,7 @@ fn add_calls_each(
     p: &Program,
     facts: &Facts,
     table: &Table,
-    standing_at: Standing,
+    standing_at: &Standing,
     i: u32,
     next: &[u64],
     places: &[ThrownTo],
@@ -210,9 +210,9 @@ fn add_calls_each(
 ) -> Result<(), Memory>
     requires shaped { AreShaped p.now facts.now }
     requires narrow { AreNarrow p.now }
-    requires stands { StandsAt p.now standing_at i }
+    requires stands { StandsAt p.now standing_at.now i }
     requires fits { under + operations.arguments call.now < 2 ^ 32 }
-    ensures { OnOk result (out.new ≡ out.old ++ steps.calls_each p.now facts.now (items_of table.now) (standing standing_at) i next.now (map place_meant places.now) call.now under targets.now) }
+    ensures { OnOk result (out.new ≡ out.old ++ steps.calls_each p.now facts.now (items_of table.now) (standing standing_at.now) i next.now (map place_meant places.now) call.now under targets.now) }
 {
     for n in targets {
         add_calls_target(
@@ -229,7 +229,7 @@ pub fn add_calls(
     p: &Program,
     facts: &Facts,
     table: &Table,
-    standing_at: Standing,
+    standing_at: &Standing,
     i: u32,
     next: &[u64],
     places: &[ThrownTo],
@@ -238,9 +238,9 @@ pub fn add_calls(
 ) -> Result<(), Memory>
     requires shaped { AreShaped p.now facts.now }
     requires narrow { AreNarrow p.now }
-    requires stands { StandsAt p.now standing_at i }
+    requires stands { StandsAt p.now standing_at.now i }
     requires finds { operations.pops op.now ≤ height }
-    ensures { OnOk result (out.new ≡ out.old ++ steps.calls p.now facts.now (items_of table.now) (standing standing_at) i next.now (map place_meant places.now) op.now height) }
+    ensures { OnOk result (out.new ≡ out.old ++ steps.calls p.now facts.now (items_of table.now) (standing standing_at.now) i next.now (map place_meant places.now) op.now height) }
 {
     match op {
         Op::Call(call) => {

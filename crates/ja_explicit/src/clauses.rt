@@ -80,13 +80,13 @@ fn is_marked(entry: &Entry, k: u64) -> bool
 }
 
 // Whether a parameter of an entry may be true.
-fn may_be_true(opening: &Opening, k: u64) -> bool
+fn may_be_true(opening: &Opening, k: u32) -> bool
     ensures { result ≡ starts.may_be_true opening.now.program.now opening.now.facts.now (items_of opening.now.table.now) opening.now.entry.now opening.now.method.now k }
 {
-    if is_marked(opening.entry, k) {
+    if is_marked(opening.entry, k as u64) {
         return true;
     }
-    takes_reference(opening.method, k)
+    takes_reference(opening.method, k as u64)
         && param_stores(
             opening.program,
             opening.facts,
@@ -100,8 +100,8 @@ fn may_be_true(opening: &Opening, k: u64) -> bool
 fn is_opened(opening: &Opening, local: u32) -> bool
     ensures { result ≡ any_below (λ k. nat_eq (params.param_local opening.now.method.now k) local && starts.may_be_true opening.now.program.now opening.now.facts.now (items_of opening.now.table.now) opening.now.entry.now opening.now.method.now k) (params.param_count opening.now.method.now) }
 {
-    for k in 0..param_count(opening.method) {
-        if param_local(opening.method, k) == local as u64 && may_be_true(opening, k) {
+    for k in 0..param_count(opening.method) as u32 {
+        if param_local(opening.method, k as u64) == local as u64 && may_be_true(opening, k) {
             return true;
         }
     }
@@ -126,6 +126,7 @@ fn opened_clause(opening: &Opening, spot: Spot) -> Clause
 
 /// What a rule says of a spot.
 pub fn clause_of(rule: &Rule, spot: Spot) -> Clause
+    requires { rules.IsReady rule.now }
     ensures { result ≡ rules.clauses_of rule.now spot }
 {
     match rule {

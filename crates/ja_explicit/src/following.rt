@@ -27,16 +27,16 @@ fn add_runs(
     p: &Program,
     facts: &Facts,
     table: &Table,
-    standing_at: Standing,
+    standing_at: &Standing,
     i: u32,
     instr: &Instr,
 ) -> Result<(), Memory>
     requires given { AreGiven p.now facts.now }
     requires narrow { AreNarrow p.now }
-    requires stands { StandsAt p.now standing_at i }
-    requires instr { slice_get standing_at.method.now.code i ≡ Some instr.now }
+    requires stands { StandsAt p.now standing_at.now i }
+    requires instr { slice_get standing_at.now.method.now.code i ≡ Some instr.now }
     requires reached { instr.now.reached ≡ true }
-    ensures { OnOk result (out.new ≡ out.old ++ steps.runs p.now facts.now (items_of table.now) (standing standing_at) i (tests_of p.now facts.now standing_at.m i) instr.now) }
+    ensures { OnOk result (out.new ≡ out.old ++ steps.runs p.now facts.now (items_of table.now) (standing standing_at.now) i (tests_of p.now facts.now standing_at.now.m i) instr.now) }
 {
     let _whole = p.methods();
     let (op, height, next) = (&instr.op, instr.height, instr.next.as_slice());
@@ -44,8 +44,8 @@ fn add_runs(
     let here = Here { before, op, height };
     let found = places_of(alloc, p, facts, standing_at.m, i, standing_at.method)?;
     let places = found.as_slice();
-    add_goes_on(alloc, out, p, facts, table, standing_at, here, next)?;
-    add_throws(alloc, out, standing_at, here, places)?;
+    add_goes_on(alloc, out, p, facts, table, standing_at, &here, next)?;
+    add_throws(alloc, out, standing_at, &here, places)?;
     add_initializes(alloc, out, p, facts, table, standing_at, i, height, op)?;
     add_calls(
         alloc, out, p, facts, table, standing_at, i, next, places, op, height,
@@ -62,13 +62,13 @@ fn add_runs_in(
     p: &Program,
     facts: &Facts,
     table: &Table,
-    standing_at: Standing,
+    standing_at: &Standing,
     index: u64,
 ) -> Result<(), Memory>
     requires given { AreGiven p.now facts.now }
     requires narrow { AreNarrow p.now }
-    requires found { slice_get p.now.methods standing_at.m ≡ Some standing_at.method.now }
-    ensures { OnOk result (out.new ≡ out.old ++ steps.runs_reached p.now facts.now (items_of table.now) (standing standing_at) index (slice_get standing_at.method.now.code index)) }
+    requires found { slice_get p.now.methods standing_at.now.m ≡ Some standing_at.now.method.now }
+    ensures { OnOk result (out.new ≡ out.old ++ steps.runs_reached p.now facts.now (items_of table.now) (standing standing_at.now) index (slice_get standing_at.now.method.now.code index)) }
 {
     let _whole = p.methods();
     let code = &standing_at.method.code;
@@ -105,9 +105,9 @@ fn add_runs_at(
         method: p.methods().at(m),
         m: m as u32,
         entry,
-        now,
+        word: now,
     };
-    add_runs_in(alloc, out, p, facts, table, standing_at, index)
+    add_runs_in(alloc, out, p, facts, table, &standing_at, index)
 }
 
 /// Adds what follows of a fact, beside those of a table.

@@ -21,11 +21,11 @@ use std::alloc::Global;
 // Adds that instructions are come to with a word.
 fn add_at_each(
     out: &mut Seq<Item>,
-    standing: Standing,
+    standing: &Standing,
     word: u32,
     next: &[u64],
 ) -> Result<(), Memory>
-    ensures { OnOk result (out.new ≡ out.old ++ steps.at_each standing.m standing.entry word next.now) }
+    ensures { OnOk result (out.new ≡ out.old ++ steps.at_each standing.now.m standing.now.entry word next.now) }
 {
     for index in next {
         out.push(Item::At {
@@ -41,11 +41,11 @@ fn add_at_each(
 /// Adds that instructions are come to with each of some words.
 pub fn add_at_all(
     out: &mut Seq<Item>,
-    standing: Standing,
+    standing: &Standing,
     next: &[u64],
     words: &[u32],
 ) -> Result<(), Memory>
-    ensures { OnOk result (out.new ≡ out.old ++ steps.at_all standing.m standing.entry next.now words.now) }
+    ensures { OnOk result (out.new ≡ out.old ++ steps.at_all standing.now.m standing.now.entry next.now words.now) }
 {
     for word in words {
         add_at_each(out, standing, *word, next)?;
@@ -57,11 +57,11 @@ pub fn add_at_all(
 fn add_caught(
     alloc: Global,
     out: &mut Seq<Item>,
-    standing_at: Standing,
+    standing_at: &Standing,
     word: u32,
     index: u32,
 ) -> Result<(), Memory>
-    ensures { OnOk result (out.new ≡ out.old ++ steps.lands_at (standing standing_at) word (place_meant (ThrownTo.Handler index))) }
+    ensures { OnOk result (out.new ≡ out.old ++ steps.lands_at (standing standing_at.now) word (place_meant (ThrownTo.Handler index))) }
 {
     let method = standing_at.method;
     let words = next_words(alloc, method, &Rule::Caught, method, word)?;
@@ -72,11 +72,11 @@ fn add_caught(
 fn add_lands_at(
     alloc: Global,
     out: &mut Seq<Item>,
-    standing_at: Standing,
+    standing_at: &Standing,
     word: u32,
     place: ThrownTo,
 ) -> Result<(), Memory>
-    ensures { OnOk result (out.new ≡ out.old ++ steps.lands_at (standing standing_at) word (place_meant place)) }
+    ensures { OnOk result (out.new ≡ out.old ++ steps.lands_at (standing standing_at.now) word (place_meant place)) }
 {
     match place {
         ThrownTo::Handler(index) => add_caught(alloc, out, standing_at, word, index),
@@ -93,11 +93,11 @@ fn add_lands_at(
 fn add_lands_each(
     alloc: Global,
     out: &mut Seq<Item>,
-    standing_at: Standing,
+    standing_at: &Standing,
     word: u32,
     places: &[ThrownTo],
 ) -> Result<(), Memory>
-    ensures { OnOk result (out.new ≡ out.old ++ steps.lands_each (standing standing_at) word (map place_meant places.now)) }
+    ensures { OnOk result (out.new ≡ out.old ++ steps.lands_each (standing standing_at.now) word (map place_meant places.now)) }
 {
     for place in places {
         add_lands_at(alloc, out, standing_at, word, *place)?;
@@ -109,11 +109,11 @@ fn add_lands_each(
 pub fn add_lands_all(
     alloc: Global,
     out: &mut Seq<Item>,
-    standing_at: Standing,
+    standing_at: &Standing,
     places: &[ThrownTo],
     words: &[u32],
 ) -> Result<(), Memory>
-    ensures { OnOk result (out.new ≡ out.old ++ steps.lands_all (standing standing_at) (map place_meant places.now) words.now) }
+    ensures { OnOk result (out.new ≡ out.old ++ steps.lands_all (standing standing_at.now) (map place_meant places.now) words.now) }
 {
     for word in words {
         add_lands_each(alloc, out, standing_at, *word, places)?;

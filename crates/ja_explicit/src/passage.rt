@@ -32,15 +32,15 @@ pub struct Passage<'a> {
 fn add_returns(
     alloc: Global,
     out: &mut Seq<Item>,
-    standing_at: Standing,
+    standing_at: &Standing,
     way: &Passage,
     summary: Summary,
 ) -> Result<(), Memory>
-    ensures { OnOk result (out.new ≡ out.old ++ steps.returns_with (standing standing_at) (passage way.now) summary) }
+    ensures { OnOk result (out.new ≡ out.old ++ steps.returns_with (standing standing_at.now) (passage way.now) summary) }
 {
     let method = standing_at.method;
     let rule = Rule::Returns(way.through, way.answers, summary);
-    let words = next_words(alloc, method, &rule, method, standing_at.now)?;
+    let words = next_words(alloc, method, &rule, method, standing_at.word)?;
     add_at_all(out, standing_at, way.next, words.as_slice())
 }
 
@@ -48,15 +48,15 @@ fn add_returns(
 fn add_throws(
     alloc: Global,
     out: &mut Seq<Item>,
-    standing_at: Standing,
+    standing_at: &Standing,
     way: &Passage,
     summary: Summary,
 ) -> Result<(), Memory>
-    ensures { OnOk result (out.new ≡ out.old ++ steps.throws_with (standing standing_at) (passage way.now) summary) }
+    ensures { OnOk result (out.new ≡ out.old ++ steps.throws_with (standing standing_at.now) (passage way.now) summary) }
 {
     let method = standing_at.method;
     let rule = Rule::Throws(way.through, summary);
-    let words = next_words(alloc, method, &rule, method, standing_at.now)?;
+    let words = next_words(alloc, method, &rule, method, standing_at.word)?;
     add_lands_all(alloc, out, standing_at, way.places, words.as_slice())
 }
 
@@ -71,11 +71,11 @@ fn is_of(way: &Passage, n: u64, given: u32) -> bool
 fn add_ends_with(
     alloc: Global,
     out: &mut Seq<Item>,
-    standing_at: Standing,
+    standing_at: &Standing,
     way: &Passage,
     item: Item,
 ) -> Result<(), Memory>
-    ensures { OnOk result (out.new ≡ out.old ++ steps.ends_with (standing standing_at) (passage way.now) item) }
+    ensures { OnOk result (out.new ≡ out.old ++ steps.ends_with (standing standing_at.now) (passage way.now) item) }
 {
     match item {
         Item::Normal {
@@ -113,10 +113,10 @@ fn add_ends_with_each(
     alloc: Global,
     out: &mut Seq<Item>,
     table: &Table,
-    standing_at: Standing,
+    standing_at: &Standing,
     way: &Passage,
 ) -> Result<(), Memory>
-    ensures { OnOk result (out.new ≡ out.old ++ steps.ends_with_each (standing standing_at) (passage way.now) (items_of table.now)) }
+    ensures { OnOk result (out.new ≡ out.old ++ steps.ends_with_each (standing standing_at.now) (passage way.now) (items_of table.now)) }
 {
     for k in 0..table.len() {
         match table.at(k) {
@@ -132,10 +132,10 @@ pub fn add_goes_through(
     alloc: Global,
     out: &mut Seq<Item>,
     table: &Table,
-    standing_at: Standing,
+    standing_at: &Standing,
     way: &Passage,
 ) -> Result<(), Memory>
-    ensures { OnOk result (out.new ≡ out.old ++ steps.goes_through (items_of table.now) (standing standing_at) (passage way.now)) }
+    ensures { OnOk result (out.new ≡ out.old ++ steps.goes_through (items_of table.now) (standing standing_at.now) (passage way.now)) }
 {
     out.push(Item::Context {
         method: way.n,

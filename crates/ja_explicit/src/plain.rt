@@ -1,4 +1,4 @@
-ghost use Rattle.std.specs.Prelude.{◌≡◌, ◌≤◌, ◌<◌, ◌+◌, ◌^◌, IfOk, IfErr, IfSome, IfNone, length, slice_get, Some};
+ghost use Rattle.std.specs.Prelude.{◌≡◌, ◌≤◌, ◌<◌, ◌+◌, ◌^◌, IfOk, IfErr, IfSome, IfNone, length, slice_get, nat_lt, Some};
 ghost use Rattle.ja_facts.specs.Verdict.{AreVerdictsOf};
 ghost use Rattle.ja_explicit.specs.Given.{AreGiven, AreNarrow, IsFirstWide, Taints, value_count, most_values};
 ghost use Rattle.ja_explicit.specs.Faults.{IsCause};

@@ -1,4 +1,5 @@
 ghost use Rattle.std.specs.Prelude.{◌≡◌, ◌++◌, ◌≤◌, ◌-◌, [], ◌∷◌, length, not, IfOk, OnOk, if◌then◌else◌};
+ghost use Rattle.ja_ir.specs.Operations.{FindsOperands};
 ghost use Rattle.ja_clauses.specs.Tables.{tests_by};
 ghost use Rattle.ja_facts.specs.Slots.{OnStack};
 ghost use Rattle.ja_explicit.specs.Given.{value_count, most_values};
@@ -108,14 +109,15 @@ fn readable(
 }
 
 // The words that the normal end leaves.
-fn normal_words(alloc: Global, standing_at: Standing, here: Here) -> Result<Seq<u32>, Memory>
-    ensures { IfOk result (λ list. list ≡ steps.normal_words (standing standing_at) (tests_by here.before) here.op.now here.height) }
+fn normal_words(alloc: Global, standing_at: &Standing, here: &Here) -> Result<Seq<u32>, Memory>
+    requires { FindsOperands here.now.op.now here.now.height }
+    ensures { IfOk result (λ list. list ≡ steps.normal_words (standing standing_at.now) (tests_by here.now.before) here.now.op.now here.now.height) }
 {
     if !may_go_on(&here.before, here.op) {
         return Ok(Seq::new(alloc));
     }
     let method = standing_at.method;
-    next_words(alloc, method, &Rule::Normal(here), method, standing_at.now)
+    next_words(alloc, method, &Rule::Normal(*here), method, standing_at.word)
 }
 
 /// Adds what follows of the normal end of an instruction.
@@ -125,12 +127,13 @@ pub fn add_goes_on(
     p: &Program,
     facts: &Facts,
     table: &Table,
-    standing_at: Standing,
-    here: Here,
+    standing_at: &Standing,
+    here: &Here,
     next: &[u64],
 ) -> Result<(), Memory>
     requires fields { HasFields p.now facts.now }
-    ensures { OnOk result (out.new ≡ out.old ++ steps.goes_on p.now facts.now (items_of table.now) (standing standing_at) (tests_by here.before) here.op.now here.height next.now) }
+    requires finds { FindsOperands here.now.op.now here.now.height }
+    ensures { OnOk result (out.new ≡ out.old ++ steps.goes_on p.now facts.now (items_of table.now) (standing standing_at.now) (tests_by here.now.before) here.now.op.now here.now.height next.now) }
 {
     let words = normal_words(alloc, standing_at, here)?;
     let list = readable(

@@ -1,6 +1,6 @@
-ghost use Rattle.std.specs.Prelude.{◌≡◌, ◌≤◌, length};
+ghost use Rattle.std.specs.Prelude.{◌≡◌, ◌≤◌, ◌<◌, ◌^◌, length};
+ghost use Rattle.ja_ir.specs.Params.{param_count};
 ghost use Rattle.ja_facts.specs.ClassTables.{token_count};
-ghost use Rattle.ja_ir.specs.Operations.{FindsOperands};
 ghost use Rattle.ja_explicit.specs.Given.{value_count, most_values};
 
 use crate::table::Table;
@@ -15,7 +15,6 @@ pub struct Here<'a> {
     pub before: Before<'a>,
     pub op: &'a Op,
     pub height: u32,
-    pub ghost finds: { FindsOperands op.now height },
 }
 
 /// A call of a method with so many arguments over so many values, from a word of the caller's frame.
@@ -37,6 +36,7 @@ pub struct Opening<'a> {
     pub table: &'a Table,
     pub entry: &'a Entry,
     pub method: &'a Method,
+    pub ghost few: { param_count method.now < 2 ^ 32 },
     pub ghost tokens: { length facts.now.holds.tokens ≡ token_count program.now },
 }
 

@@ -9,6 +9,6 @@ pub struct Standing<'a> {
     pub method: &'a Method,
     pub m: u32,
     pub entry: u32,
-    pub now: u32,
+    pub word: u32,
     pub ghost narrow: { value_count method.now ≤ most_values },
 }

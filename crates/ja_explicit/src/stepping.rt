@@ -2,7 +2,7 @@ ghost use Rattle.std.specs.Prelude.{◌≡◌, ◌++◌, ◌≤◌, ◌<◌, ◌
 ghost use Rattle.ja_facts.specs.FactTables.{slot_count};
 ghost use Rattle.ja_explicit.specs.Given.{value_count, most_values};
 ghost use Rattle.ja_explicit.specs.InnerWords as words;
-ghost use Rattle.ja_explicit.specs.InnerRules.{clauses_of};
+ghost use Rattle.ja_explicit.specs.InnerRules.{clauses_of, IsReady};
 
 use crate::chance::Chance;
 use crate::clauses::clause_of;
@@ -24,6 +24,7 @@ fn slot_count(method: &Method) -> u32
 fn chance(to: &Method, rule: &Rule, from: &Method, word: u32, n: u32) -> Chance
     requires to { value_count to.now ≤ most_values }
     requires from { value_count from.now ≤ most_values }
+    requires ready { IsReady rule.now }
     ensures { result ≡ words.chance to.now (clauses_of rule.now) (words.says from.now word) n }
 {
     let clause = clause_of(rule, spot_at(to, n));
@@ -43,6 +44,7 @@ fn chances(
 ) -> Result<Seq<Chance>, Memory>
     requires to { value_count to.now ≤ most_values }
     requires from { value_count from.now ≤ most_values }
+    requires ready { IsReady rule.now }
     ensures { IfOk result (λ list. list ≡ words.chances to.now (clauses_of rule.now) (words.says from.now word)) }
 {
     let mut list = Seq::new(alloc);
@@ -92,6 +94,7 @@ pub fn next_words(
 ) -> Result<Seq<u32>, Memory>
     requires to { value_count to.now ≤ most_values }
     requires from { value_count from.now ≤ most_values }
+    requires ready { IsReady rule.now }
     ensures { IfOk result (λ list. list ≡ words.next_words to.now (clauses_of rule.now) (words.says from.now word)) }
 {
     let chances = chances(alloc, to, rule, from, word)?;

@@ -17,21 +17,21 @@ use ja_sets::TokenSet;
 use ja_tokens::{parr_token, rarr_token};
 
 // Whether the topmost of so many values on the stack is true.
-fn top_is_true(standing_at: Standing, height: u32) -> bool
-    ensures { result ≡ (steps.present (standing standing_at)).slot (OnStack (height - 1)) }
+fn top_is_true(standing_at: &Standing, height: u32) -> bool
+    ensures { result ≡ (steps.present (standing standing_at.now)).slot (OnStack (height - 1)) }
 {
     let place = height.saturating_sub(1) as u64;
-    stacked_is_true(standing_at.method, standing_at.now, place)
+    stacked_is_true(standing_at.method, standing_at.word, place)
 }
 
 /// Adds what follows of a return.
 pub fn add_returns(
     out: &mut Seq<Item>,
-    standing_at: Standing,
+    standing_at: &Standing,
     op: &Op,
     height: u32,
 ) -> Result<(), Memory>
-    ensures { OnOk result (out.new ≡ out.old ++ steps.returns (standing standing_at) op.now height) }
+    ensures { OnOk result (out.new ≡ out.old ++ steps.returns (standing standing_at.now) op.now height) }
 {
     let result = match op {
         Op::Return(Some(_)) => top_is_true(standing_at, height),
@@ -42,7 +42,7 @@ pub fn add_returns(
         method: standing_at.m as u64,
         entry: standing_at.entry,
         result,
-        dirt: dirt_is_true(standing_at.method, standing_at.now),
+        dirt: dirt_is_true(standing_at.method, standing_at.word),
     })
 }
 
@@ -69,11 +69,11 @@ fn stored_cell(p: &Program, op: &Op) -> Option<u64>
 pub fn add_writes(
     out: &mut Seq<Item>,
     p: &Program,
-    standing_at: Standing,
+    standing_at: &Standing,
     op: &Op,
     height: u32,
 ) -> Result<(), Memory>
-    ensures { OnOk result (out.new ≡ out.old ++ steps.writes p.now (standing standing_at) op.now height) }
+    ensures { OnOk result (out.new ≡ out.old ++ steps.writes p.now (standing standing_at.now) op.now height) }
 {
     match stored_cell(p, op) {
         Some(cell) if top_is_true(standing_at, height) => out.push(Item::Stored { cell }),
@@ -82,14 +82,14 @@ pub fn add_writes(
 }
 
 // What a library call puts into the objects that it changes.
-fn puts_in(standing_at: Standing, call: &CallOp, height: u32) -> bool
+fn puts_in(standing_at: &Standing, call: &CallOp, height: u32) -> bool
     requires { operations.arguments call.now ≤ height }
-    ensures { result ≡ formulas.put_in (steps.present (standing standing_at)) call.now (height - operations.arguments call.now) }
+    ensures { result ≡ formulas.put_in (steps.present (standing standing_at.now)) call.now (height - operations.arguments call.now) }
 {
     let count = arguments(call) as u32;
     let any = some_stacked(
         standing_at.method,
-        standing_at.now,
+        standing_at.word,
         height - count,
         count,
     );
@@ -132,13 +132,13 @@ pub fn add_takes(
     out: &mut Seq<Item>,
     p: &Program,
     facts: &Facts,
-    standing_at: Standing,
+    standing_at: &Standing,
     i: u32,
     op: &Op,
     height: u32,
 ) -> Result<(), Memory>
     requires { operations.pops op.now ≤ height }
-    ensures { OnOk result (out.new ≡ out.old ++ steps.takes p.now facts.now (standing standing_at) i op.now height) }
+    ensures { OnOk result (out.new ≡ out.old ++ steps.takes p.now facts.now (standing standing_at.now) i op.now height) }
 {
     match op {
         Op::Call(call) if puts_in(standing_at, call, height) => {

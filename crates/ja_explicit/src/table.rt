@@ -1,4 +1,4 @@
-ghost use Rattle.std.specs.Prelude.{◌≡◌, ◌++◌, ◌∷◌, [], OnOk, IfOk, length, slice_get, if◌then◌else◌};
+ghost use Rattle.std.specs.Prelude.{◌≡◌, ◌++◌, ◌∷◌, [], true, OnOk, IfOk, length, slice_get, if◌then◌else◌};
 ghost use Rattle.ja_explicit.specs.Tables.{items_of};
 ghost use Rattle.ja_explicit.specs.InnerSteps as steps;
 
