@@ -1,3 +1,4 @@
 pub mod Worded
 pub mod Quiet
 pub mod Lists
+pub mod Looping

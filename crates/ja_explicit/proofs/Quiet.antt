@@ -106,8 +106,8 @@ module _ (p : Parts) (f : Facts) (m i : ℕ) (method : Method) (found : slice_ge
   normal_idle op height uses before after (Local l) e = inl (local_moved op height l uses e)
   normal_idle op height uses before after (OnStack k) e =
       let high = ltb-false k method.stack e in
-      inr (ap (λ c. stacked_after c (nat_lt k (height_after op height)) (tests_of p f m i) op height k) (le-ltb (height - pops op) k (omega (arith, high, before)))
-      ∙ ap (λ c. stacked_after false c (tests_of p f m i) op height k) (le-ltb (height_after op height) k (omega (arith, high, after))))
+      inr (ap (λ c. stacked_after c (nat_lt k (height_after op height)) (tests_of p f m i) op height k) (le-ltb k (height - pops op) (omega (arith, high, before)))
+      ∙ ap (λ c. stacked_after false c (tests_of p f m i) op height k) (le-ltb k (height_after op height) (omega (arith, high, after))))
   normal_idle op height uses before after Dirt e = absurd (false≢true (sym e))
   normal_idle op height uses before after Exc e = absurd (false≢true (sym e))
 

@@ -52,7 +52,7 @@ module _ {A : Type 0} (f : ℕ → List A) where
 
 -- ---- bits
 
-digit : Bool → ℕ
+abbrev digit : Bool → ℕ
 digit false = 0
 digit true = 1
 
@@ -65,7 +65,7 @@ digit_is false = refl
 digit_is true = refl
 
 -- the word whose first so many bits are these
-pub word_of : (ℕ → Bool) → ℕ → ℕ
+abbrev pub word_of : (ℕ → Bool) → ℕ → ℕ
 word_of g zero = 0
 word_of g (suc n) = digit (g 0) + 2 * word_of (λ k. g (suc k)) n
 
@@ -91,13 +91,13 @@ word_bit g (suc n) (suc k) lt =
 
 module _ (method : Method) where
   -- the spot is one of the frame
-  pub is_inside : Spot → Bool
+  abbrev pub is_inside : Spot → Bool
   is_inside (Local l) = nat_lt l method.locals
   is_inside (OnStack k) = nat_lt k method.stack
   is_inside Dirt = true
   is_inside Exc = true
 
-  pub number : Spot → ℕ
+  abbrev pub number : Spot → ℕ
   number (Local l) = l
   number (OnStack k) = method.locals + k
   number Dirt = method.locals + method.stack
@@ -119,12 +119,12 @@ module _ (method : Method) where
   past_locals : (n : ℕ) → method.locals ≤ n → spot_at method n ≡ (if nat_lt n (method.locals + method.stack) then OnStack (n - method.locals) else (if nat_eq n (method.locals + method.stack) then Dirt else Exc))
   past_locals n le =
       second_of (nat_lt n method.locals) (Local n) (if nat_lt n (method.locals + method.stack) then OnStack (n - method.locals) else (if nat_eq n (method.locals + method.stack) then Dirt else Exc))
-      (le-ltb method.locals n le)
+      (le-ltb n method.locals le)
 
   past_values : (n : ℕ) → method.locals + method.stack ≤ n → spot_at method n ≡ (if nat_eq n (method.locals + method.stack) then Dirt else Exc)
   past_values n le =
       past_locals n (omega (arith, le))
-      ∙ second_of (nat_lt n (method.locals + method.stack)) (OnStack (n - method.locals)) (if nat_eq n (method.locals + method.stack) then Dirt else Exc) (le-ltb (method.locals + method.stack) n le)
+      ∙ second_of (nat_lt n (method.locals + method.stack)) (OnStack (n - method.locals)) (if nat_eq n (method.locals + method.stack) then Dirt else Exc) (le-ltb n (method.locals + method.stack) le)
 
   pub spot_numbered : (s : Spot) → is_inside s ≡ true → spot_at method (number s) ≡ s
   spot_numbered (Local l) e =
@@ -194,7 +194,7 @@ same_assignment a b h = λ j. record { slot = λ z. same_slot z j; dirt = h Dirt
 -- ---- the words after an assignment
 
 module _ (to : Method) (clauses : Spot → Clause) (b : Assignment) where
-  chance_of : ℕ → List Chance
+  abbrev chance_of : ℕ → List Chance
   chance_of n = chance to clauses b n ∷ []
 
   chosen : (n : ℕ) (t : Bool) → (if t then (chance to clauses b n).high else (chance to clauses b n).low) ≡ fits (clauses (spot_at to n)) b t
@@ -239,7 +239,7 @@ module _ (to : Method) (clauses : Spot → Clause) (b : Assignment) where
       (subst (λ c. Contains (if c then w ∷ [] else []) w) (sym (each_passes w 0 (slot_count to) (λ k low high. h k (omega (arith, high))))) (0, omega arith, refl))
 
   -- outside the frame clauses make nothing true
-  pub IsQuiet : Type 0
+  abbrev pub IsQuiet : Type 0
   IsQuiet = (s : Spot) → is_inside to s ≡ false → (fits (clauses s) b false ≡ true) × (fits (clauses s) b true ≡ false)
 
   pub word_all : IsQuiet → (w : ℕ) → Contains (next_words to clauses b) w → AllFit clauses b (says to w)

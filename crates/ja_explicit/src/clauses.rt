@@ -100,7 +100,8 @@ fn may_be_true(opening: &Opening, k: u32) -> bool
 fn is_opened(opening: &Opening, local: u32) -> bool
     ensures { result ≡ any_below (λ k. nat_eq (params.param_local opening.now.method.now k) local && starts.may_be_true opening.now.program.now opening.now.facts.now (items_of opening.now.table.now) opening.now.entry.now opening.now.method.now k) (params.param_count opening.now.method.now) }
 {
-    for k in 0..param_count(opening.method) as u32 {
+    let count = param_count(opening.method) as u32;
+    for k in 0..count {
         if param_local(opening.method, k as u64) == local as u64 && may_be_true(opening, k) {
             return true;
         }

@@ -163,7 +163,8 @@ pub fn places_of(
 {
     let thrown = facts.sets.thrown(MethodId(m), i);
     let mut places = Seq::new(alloc);
-    for token in 0..token_count(p) {
+    let count = token_count(p);
+    for token in 0..count {
         add_places_of_token(alloc, &mut places, p, thrown, method, i, token)?;
     }
     Ok(places)

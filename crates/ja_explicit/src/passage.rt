@@ -118,7 +118,8 @@ fn add_ends_with_each(
 ) -> Result<(), Memory>
     ensures { OnOk result (out.new ≡ out.old ++ steps.ends_with_each (standing standing_at.now) (passage way.now) (items_of table.now)) }
 {
-    for k in 0..table.len() {
+    let count = table.len();
+    for k in 0..count {
         match table.at(k) {
             Some(item) => add_ends_with(alloc, out, standing_at, way, item)?,
             None => return Ok(()),

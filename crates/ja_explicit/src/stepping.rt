@@ -48,7 +48,8 @@ fn chances(
     ensures { IfOk result (λ list. list ≡ words.chances to.now (clauses_of rule.now) (words.says from.now word)) }
 {
     let mut list = Seq::new(alloc);
-    for n in 0..slot_count(to) {
+    let count = slot_count(to);
+    for n in 0..count {
         list.push(chance(to, rule, from, word, n))?;
     }
     Ok(list)
@@ -99,7 +100,8 @@ pub fn next_words(
 {
     let chances = chances(alloc, to, rule, from, word)?;
     let mut list = Seq::new(alloc);
-    for next in 0..1 << slot_count(to) {
+    let count = 1 << slot_count(to);
+    for next in 0..count {
         add_word(&mut list, chances.as_slice(), next)?;
     }
     Ok(list)

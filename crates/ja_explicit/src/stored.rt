@@ -85,7 +85,8 @@ pub fn param_stores(p: &Program, facts: &Facts, table: &Table, m: MethodId, k: u
     ensures { result ≡ starts.param_stores p.now facts.now (items_of table.now) m.0 k }
 {
     let set = facts.sets.param(m, k);
-    for t in 0..token_count(p) {
+    let count = token_count(p);
+    for t in 0..count {
         if is_in(set, t) && token_stores(p, facts, table, t) {
             return true;
         }

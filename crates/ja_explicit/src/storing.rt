@@ -121,7 +121,8 @@ fn add_taker(
 fn add_takers(out: &mut Seq<Item>, p: &Program, takers: &TokenSet) -> Result<(), Memory>
     ensures { OnOk result (out.new ≡ out.old ++ steps.takes_all p.now takers.now) }
 {
-    for token in 0..token_count(p) {
+    let count = token_count(p);
+    for token in 0..count {
         add_taker(out, p, takers, token)?;
     }
     Ok(())

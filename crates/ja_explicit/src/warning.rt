@@ -85,7 +85,8 @@ fn is_warned(p: &Program, table: &Table, site: &Site) -> bool
     requires narrow { AreNarrow p.now }
     ensures { result ≡ rounds.is_warned p.now (items_of table.now) site.now }
 {
-    for k in 0..table.len() {
+    let count = table.len();
+    for k in 0..count {
         match table.at(k) {
             Some(item) => {
                 if warns(p, site, item) {

@@ -1,0 +1,37 @@
+-- Loops over lists.
+use Rattle.std.proofs.Common.{◌≡◌, ℕ, zero, suc, ◌+◌, ◌-◌, ◌<◌, ◌≤◌, Bool, true, false, List, [], ◌∷◌, ◌++◌, Some, None, drop, refl, sym, ap, subst, ◌∙◌, arith, append_assoc}
+use Rattle.std.specs.Prelude.{slice_get, ◌||◌}
+use Rattle.std.proofs.lemmas.Option.{same_Some}
+use Rattle.ja_facts.specs.Formulas.{any_below}
+use Rattle.ja_explicit.specs.InnerWords.{over}
+
+-- one more number is gone over
+pub over_more : {A : Type 0} (f : ℕ → List A) (k count : ℕ) (told new all : List A) → k < count → new ≡ told ++ f k → told ++ over f k (count - k) ≡ all
+    → new ++ over f (k + 1) (count - (k + 1)) ≡ all
+over_more {A} f k count told new all lt is before =
+    let left : count - k ≡ suc (count - (k + 1)) = omega (arith, lt) in
+    let next : suc k ≡ k + 1 = omega arith in
+    let one : over f k (count - k) ≡ f k ++ over f (k + 1) (count - (k + 1)) = ap (over f k) left ∙ ap (λ (n : ℕ). f k ++ over f n (count - (k + 1))) next in
+    ap (λ (t : List A). t ++ over f (k + 1) (count - (k + 1))) is ∙ append_assoc told (f k) (over f (k + 1) (count - (k + 1)))
+    ∙ ap (λ (t : List A). told ++ t) (sym one) ∙ before
+
+-- the item of a place, and what is behind it
+pub drop_one : {A : Type 0} (xs : List A) (k : ℕ) (x : A) → slice_get xs k ≡ Some x → drop k xs ≡ x ∷ drop (k + 1) xs
+drop_one xs k x e = go xs k e ∙ ap (λ n. x ∷ drop n xs) (omega arith)
+  where
+    go : (ys : List A) (j : ℕ) → slice_get ys j ≡ Some x → drop j ys ≡ x ∷ drop (suc j) ys
+    go [] j h = absurd (cc h)
+    go (y ∷ ys) zero h = ap (λ z. z ∷ ys) (same_Some h)
+    go (y ∷ ys) (suc j) h = go ys j h
+
+-- there is none at the end
+pub drop_none : {A : Type 0} (xs : List A) (k : ℕ) → slice_get xs k ≡ None → drop k xs ≡ []
+drop_none [] zero h = refl
+drop_none [] (suc k) h = refl
+drop_none (x ∷ xs) zero h = absurd (cc h)
+drop_none (x ∷ xs) (suc k) h = drop_none xs k h
+
+-- nothing passes a test that nothing passes
+pub nothing_below : (test : ℕ → Bool) (n : ℕ) → ((k : ℕ) → test k ≡ false) → any_below test n ≡ false
+nothing_below test zero h = refl
+nothing_below test (suc n) h = ap (λ c. c || test n) (nothing_below test n h) ∙ h n
