@@ -2,3 +2,4 @@ pub mod Worded
 pub mod Quiet
 pub mod Lists
 pub mod Looping
+pub mod Same

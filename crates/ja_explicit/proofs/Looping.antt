@@ -1,6 +1,6 @@
 -- Loops over lists.
 use Rattle.std.proofs.Common.{◌≡◌, ℕ, zero, suc, ◌+◌, ◌-◌, ◌<◌, ◌≤◌, Bool, true, false, List, [], ◌∷◌, ◌++◌, Some, None, drop, refl, sym, ap, subst, ◌∙◌, arith, append_assoc}
-use Rattle.std.specs.Prelude.{slice_get, ◌||◌}
+use Rattle.std.specs.Prelude.{slice_get, slice_index_or, length, ◌||◌}
 use Rattle.std.proofs.lemmas.Option.{same_Some}
 use Rattle.ja_facts.specs.Formulas.{any_below}
 use Rattle.ja_explicit.specs.InnerWords.{over}
@@ -17,11 +17,11 @@ over_more {A} f k count told new all lt is before =
 
 -- the item of a place, and what is behind it
 pub drop_one : {A : Type 0} (xs : List A) (k : ℕ) (x : A) → slice_get xs k ≡ Some x → drop k xs ≡ x ∷ drop (k + 1) xs
-drop_one xs k x e = go xs k e ∙ ap (λ n. x ∷ drop n xs) (omega arith)
+drop_one {A} xs k x e = go xs k e ∙ ap (λ n. x ∷ drop n xs) (omega arith)
   where
     go : (ys : List A) (j : ℕ) → slice_get ys j ≡ Some x → drop j ys ≡ x ∷ drop (suc j) ys
     go [] j h = absurd (cc h)
-    go (y ∷ ys) zero h = ap (λ z. z ∷ ys) (same_Some h)
+    go (y ∷ ys) zero h = ap (λ z. z ∷ ys) (same_Some _ _ h)
     go (y ∷ ys) (suc j) h = go ys j h
 
 -- there is none at the end
@@ -35,3 +35,9 @@ drop_none (x ∷ xs) (suc k) h = drop_none xs k h
 pub nothing_below : (test : ℕ → Bool) (n : ℕ) → ((k : ℕ) → test k ≡ false) → any_below test n ≡ false
 nothing_below test zero h = refl
 nothing_below test (suc n) h = ap (λ c. c || test n) (nothing_below test n h) ∙ h n
+
+-- behind the end of a list there is nothing
+pub past_end : {A : Type 0} (xs : List A) (k : ℕ) (d : A) → length xs ≤ k → slice_index_or xs k d ≡ d
+past_end [] k d le = refl
+past_end (x ∷ xs) zero d le = absurd (omega (arith, le))
+past_end (x ∷ xs) (suc k) d le = past_end xs k d (omega (arith, le))

@@ -44,18 +44,21 @@ fn anything() -> Clause
     }
 }
 
+// Whether a local is the first of a parameter, and the argument for that is true.
+fn hands(handing: &Handing, local: u32, k: u32) -> bool
+    ensures { result ≡ (nat_eq (params.param_local handing.now.callee.now k) local && (words.says handing.now.caller.now handing.now.word).slot (argument handing.now.under k)) }
+{
+    let place = handing.under as u64 + k as u64;
+    param_local(handing.callee, k as u64) == local as u64
+        && stacked_is_true(handing.caller, handing.word, place)
+}
+
 // Whether a local is the first of a parameter whose argument is true.
 fn is_handed(handing: &Handing, local: u32) -> bool
     ensures { result ≡ any_below (λ k. nat_eq (params.param_local handing.now.callee.now k) local && (words.says handing.now.caller.now handing.now.word).slot (argument handing.now.under k)) handing.now.count }
 {
     for k in 0..handing.count {
-        if param_local(handing.callee, k as u64) == local as u64
-            && stacked_is_true(
-                handing.caller,
-                handing.word,
-                handing.under as u64 + k as u64,
-            )
-        {
+        if hands(handing, local, k) {
             return true;
         }
     }
@@ -96,13 +99,20 @@ fn may_be_true(opening: &Opening, k: u32) -> bool
         )
 }
 
+// Whether a local is the first of a parameter, and that may be true.
+fn opens(opening: &Opening, local: u32, k: u32) -> bool
+    ensures { result ≡ (nat_eq (params.param_local opening.now.method.now k) local && starts.may_be_true opening.now.program.now opening.now.facts.now (items_of opening.now.table.now) opening.now.entry.now opening.now.method.now k) }
+{
+    param_local(opening.method, k as u64) == local as u64 && may_be_true(opening, k)
+}
+
 // Whether a local is the first of a parameter that may be true.
 fn is_opened(opening: &Opening, local: u32) -> bool
     ensures { result ≡ any_below (λ k. nat_eq (params.param_local opening.now.method.now k) local && starts.may_be_true opening.now.program.now opening.now.facts.now (items_of opening.now.table.now) opening.now.entry.now opening.now.method.now k) (params.param_count opening.now.method.now) }
 {
     let count = param_count(opening.method) as u32;
     for k in 0..count {
-        if param_local(opening.method, k as u64) == local as u64 && may_be_true(opening, k) {
+        if opens(opening, local, k) {
             return true;
         }
     }

@@ -1,4 +1,5 @@
-ghost use Rattle.std.specs.Prelude.{◌≡◌, ◌++◌, ◌≤◌, ◌<◌, [], ◌∷◌, Some, length, slice_get, OnOk, if◌then◌else◌};
+ghost use Rattle.ja_ir.specs.Params.{param_count};
+ghost use Rattle.std.specs.Prelude.{◌≡◌, ◌++◌, ◌≤◌, ◌<◌, ◌^◌, [], ◌∷◌, Some, length, slice_get, OnOk, if◌then◌else◌};
 ghost use Rattle.ja_ir.specs.Lookup.{is_member};
 ghost use Rattle.ja_ir.specs.Entries as entries;
 ghost use Rattle.ja_ir.specs.Initializing.{inits_of_class};
@@ -106,6 +107,7 @@ fn add_opens(
 ) -> Result<(), Memory>
     requires given { AreGiven p.now facts.now }
     requires narrow { value_count method.now ≤ most_values }
+    requires few { param_count method.now < 2 ^ 32 }
     ensures { OnOk result (out.new ≡ out.old ++ starts.opens p.now facts.now (items_of table.now) entry.now (Some method.now)) }
 {
     add_constructs(out, p, entry.class.0, method)?;

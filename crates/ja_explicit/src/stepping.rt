@@ -98,11 +98,11 @@ pub fn next_words(
     requires ready { IsReady rule.now }
     ensures { IfOk result (λ list. list ≡ words.next_words to.now (clauses_of rule.now) (words.says from.now word)) }
 {
-    let chances = chances(alloc, to, rule, from, word)?;
+    let allowed = chances(alloc, to, rule, from, word)?;
     let mut list = Seq::new(alloc);
     let count = 1 << slot_count(to);
     for next in 0..count {
-        add_word(&mut list, chances.as_slice(), next)?;
+        add_word(&mut list, allowed.as_slice(), next)?;
     }
     Ok(list)
 }

@@ -57,18 +57,23 @@ fn some_stores(table: &Table, set: &TokenSet, count: u32) -> bool
     false
 }
 
+// Whether what a field refers to may reach a cell into which something tainted was stored.
+fn field_stores(p: &Program, facts: &Facts, table: &Table, field: FieldId) -> bool
+    requires { HasFields p.now facts.now }
+    ensures { result ≡ any_below (λ c. slice_index_or (slice_index_or facts.now.holds.fields field.0 []) c false && steps.stores (items_of table.now) c) (cell_count p.now) }
+{
+    if field.0 as u64 >= p.fields().len() {
+        return false;
+    }
+    some_stores(table, facts.holds.of_field(field), cell_count(p))
+}
+
 /// Whether a field may hold something tainted, by what was stored.
 pub fn answers(p: &Program, facts: &Facts, table: &Table, field: FieldId) -> bool
     requires { HasFields p.now facts.now }
     ensures { result ≡ steps.answers p.now facts.now (items_of table.now) field.0 }
 {
-    if stores(table, field.0 as u64) {
-        return true;
-    }
-    if field.0 as u64 >= p.fields().len() {
-        return false;
-    }
-    some_stores(table, facts.holds.of_field(field), cell_count(p))
+    stores(table, field.0 as u64) || field_stores(p, facts, table, field)
 }
 
 // Whether an object of a token may reach a cell into which something tainted was stored.
