@@ -1,5 +1,5 @@
 -- Loops over lists.
-use Rattle.std.proofs.Common.{◌≡◌, ℕ, zero, suc, ◌+◌, ◌-◌, ◌<◌, ◌≤◌, Bool, true, false, List, [], ◌∷◌, ◌++◌, Some, None, drop, refl, sym, ap, subst, ◌∙◌, arith, append_assoc}
+use Rattle.std.proofs.Common.{◌≡◌, ℕ, zero, suc, ◌+◌, ◌-◌, ◌<◌, ◌≤◌, Bool, true, false, List, [], ◌∷◌, ◌++◌, Some, None, drop, refl, sym, ap, subst, ◌∙◌, arith, append_assoc, append-nil}
 use Rattle.std.specs.Prelude.{slice_get, slice_index_or, length, ◌||◌}
 use Rattle.std.proofs.lemmas.Option.{same_Some}
 use Rattle.ja_facts.specs.Formulas.{any_below}
@@ -17,8 +17,11 @@ over_more {A} f k count told new all lt is before =
 
 -- the item of a place, and what is behind it
 pub drop_one : {A : Type 0} (xs : List A) (k : ℕ) (x : A) → slice_get xs k ≡ Some x → drop k xs ≡ x ∷ drop (k + 1) xs
-drop_one {A} xs k x e = go xs k e ∙ ap (λ n. x ∷ drop n xs) (omega arith)
+drop_one {A} xs k x e = go xs k e ∙ ap (λ (n : ℕ). x ∷ drop n xs) (suc_is k)
   where
+    suc_is : (n : ℕ) → suc n ≡ n + 1
+    suc_is n = omega arith
+
     go : (ys : List A) (j : ℕ) → slice_get ys j ≡ Some x → drop j ys ≡ x ∷ drop (suc j) ys
     go [] j h = absurd (cc h)
     go (y ∷ ys) zero h = ap (λ z. z ∷ ys) (same_Some _ _ h)
@@ -41,3 +44,21 @@ pub past_end : {A : Type 0} (xs : List A) (k : ℕ) (d : A) → length xs ≤ k 
 past_end [] k d le = refl
 past_end (x ∷ xs) zero d le = absurd (omega (arith, le))
 past_end (x ∷ xs) (suc k) d le = past_end xs k d (omega (arith, le))
+
+-- nor does one more
+pub still_none : (test : ℕ → Bool) (k : ℕ) → any_below test k ≡ false → test k ≡ false → any_below test (k + 1) ≡ false
+still_none test k none one = subst (λ n. any_below test n ≡ false) (next k) (ap (λ c. c || test k) none ∙ one)
+  where
+    next : (n : ℕ) → suc n ≡ n + 1
+    next n = omega arith
+
+-- one list behind another
+pub chain : {A : Type 0} (old mid new a b : List A) → mid ≡ old ++ a → new ≡ mid ++ b → new ≡ old ++ (a ++ b)
+chain old mid new a b first second = second ∙ ap (λ t. t ++ b) first ∙ append_assoc old a b
+
+pub chain_none : {A : Type 0} (old new a b : List A) → new ≡ old ++ a → b ≡ [] → new ≡ old ++ (a ++ b)
+chain_none old new a b first none = first ∙ ap (λ t. old ++ t) (sym (append-nil a) ∙ ap (λ t. a ++ t) (sym none))
+
+-- a length that was found
+pub past_found : {A : Type 0} (xs ys : List A) (n k : ℕ) → n ≡ length ys → ys ≡ xs → n ≤ k → length xs ≤ k
+past_found {A} xs ys n k e same le = subst (λ (zs : List A). length zs ≤ k) same (subst (λ m. m ≤ k) e le)

@@ -238,18 +238,22 @@ abbrev pub takes : Parts → Facts → Standing → (i : ℕ) → Op → (height
 takes p f s i (Call call) height = if put_in (present s) call (height - arguments call) then takes_all p (takers_at f.graph s.m i) else []
 takes p f s i op height = []
 
+-- what follows where an operation is come to, by the tests and the places of its instruction
+abbrev pub runs_by : Parts → Facts → List Item → Standing → (i : ℕ) → Tests → List Place → Op → (height : ℕ) → (next : List ℕ) → List Item
+runs_by p f items s i tests places op height next =
+    goes_on p f items s tests op height next
+    ++ (throws s places tests op height
+    ++ (initializes p f items s i height (inits_of p op)
+    ++ (calls p f items s i next places op height
+    ++ (returns s op height ++ (writes p s op height ++ takes p f s i op height)))))
+
 -- what follows where an instruction is come to
-abbrev pub runs : Parts → Facts → List Item → Standing → (i : ℕ) → Tests → Instr → List Item
-runs p f items s i tests instr =
-    goes_on p f items s tests instr.op instr.height instr.next
-    ++ (throws s (places_of p f s.m i s.method) tests instr.op instr.height
-    ++ (initializes p f items s i instr.height (inits_of p instr.op)
-    ++ (calls p f items s i instr.next (places_of p f s.m i s.method) instr.op instr.height
-    ++ (returns s instr.op instr.height ++ (writes p s instr.op instr.height ++ takes p f s i instr.op instr.height)))))
+abbrev pub runs : Parts → Facts → List Item → Standing → (i : ℕ) → Instr → List Item
+runs p f items s i instr = runs_by p f items s i (tests_of p f s.m i) (places_of p f s.m i s.method) instr.op instr.height instr.next
 
 abbrev pub runs_reached : Parts → Facts → List Item → Standing → (i : ℕ) → Option Instr → List Item
 runs_reached p f items s i None = []
-runs_reached p f items s i (Some instr) = if instr.reached then runs p f items s i (tests_of p f s.m i) instr else []
+runs_reached p f items s i (Some instr) = if instr.reached then runs p f items s i instr else []
 
 abbrev pub runs_in : Parts → Facts → List Item → (m i a b : ℕ) → Option Method → List Item
 runs_in p f items m i a b None = []

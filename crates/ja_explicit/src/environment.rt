@@ -33,10 +33,10 @@ fn add_initializers(out: &mut Seq<Item>, inits: &[MethodId]) -> Result<(), Memor
 fn add_initializers_of(out: &mut Seq<Item>, p: &Program, class: u32) -> Result<(), Memory>
     ensures { OnOk result (out.new ≡ out.old ++ starts.initializers (inits_of_class (slice_get p.now.classes class))) }
 {
-    match p.classes().as_slice().get(class as usize) {
-        Some(info) => add_initializers(out, info.inits.as_slice()),
-        None => Ok(()),
+    if class as u64 >= p.classes().len() {
+        return Ok(());
     }
+    add_initializers(out, p.classes().at(class as u64).inits.as_slice())
 }
 
 // Whether a method makes an object of a class ready without arguments.

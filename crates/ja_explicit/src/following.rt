@@ -1,5 +1,7 @@
-ghost use Rattle.std.specs.Prelude.{◌≡◌, ◌++◌, ◌≤◌, ◌<◌, ◌^◌, [], ◌∷◌, true, Some, length, slice_get, OnOk};
-ghost use Rattle.ja_work.specs.Told.{tests_of};
+ghost use Rattle.std.specs.Prelude.{◌≡◌, ◌++◌, ◌≤◌, ◌<◌, ◌^◌, [], ◌∷◌, true, Some, length, map, slice_get, OnOk};
+ghost use Rattle.ja_ir.specs.Operations.{FindsOperands};
+ghost use Rattle.ja_clauses.specs.Tables.{tests_by};
+ghost use Rattle.ja_tokens.specs.Shapes.{place_meant};
 ghost use Rattle.ja_explicit.specs.Given.{AreGiven, AreNarrow};
 ghost use Rattle.ja_explicit.specs.Tables.{items_of};
 ghost use Rattle.ja_explicit.specs.InnerSteps as steps;
@@ -18,7 +20,39 @@ use ja_base::{Memory, MethodId, Seq};
 use ja_clauses::Before;
 use ja_facts::Facts;
 use ja_ir::{Instr, Method, Program};
+use ja_tokens::ThrownTo;
 use std::alloc::Global;
+
+// Adds what follows where an operation is come to.
+fn add_runs_by(
+    alloc: Global,
+    out: &mut Seq<Item>,
+    p: &Program,
+    facts: &Facts,
+    table: &Table,
+    standing_at: &Standing,
+    i: u32,
+    here: &Here,
+    places: &[ThrownTo],
+    next: &[u64],
+) -> Result<(), Memory>
+    requires given { AreGiven p.now facts.now }
+    requires narrow { AreNarrow p.now }
+    requires stands { StandsAt p.now standing_at.now i }
+    requires finds { FindsOperands here.now.op.now here.now.height }
+    ensures { OnOk result (out.new ≡ out.old ++ steps.runs_by p.now facts.now (items_of table.now) (standing standing_at.now) i (tests_by here.now.before) (map place_meant places.now) here.now.op.now here.now.height next.now) }
+{
+    let (op, height) = (here.op, here.height);
+    add_goes_on(alloc, out, p, facts, table, standing_at, here, next)?;
+    add_throws(alloc, out, standing_at, here, places)?;
+    add_initializes(alloc, out, p, facts, table, standing_at, i, height, op)?;
+    add_calls(
+        alloc, out, p, facts, table, standing_at, i, next, places, op, height,
+    )?;
+    add_returns(out, standing_at, op, height)?;
+    add_writes(out, p, standing_at, op, height)?;
+    add_takes(out, p, facts, standing_at, i, op, height)
+}
 
 // Adds what follows where a reached instruction is come to.
 fn add_runs(
@@ -34,25 +68,27 @@ fn add_runs(
     requires given { AreGiven p.now facts.now }
     requires narrow { AreNarrow p.now }
     requires stands { StandsAt p.now standing_at.now i }
-    requires instr { slice_get standing_at.now.method.now.code i ≡ Some instr.now }
-    requires reached { instr.now.reached ≡ true }
-    ensures { OnOk result (out.new ≡ out.old ++ steps.runs p.now facts.now (items_of table.now) (standing standing_at.now) i (tests_of p.now facts.now standing_at.now.m i) instr.now) }
+    requires finds { FindsOperands instr.now.op instr.now.height }
+    ensures { OnOk result (out.new ≡ out.old ++ steps.runs p.now facts.now (items_of table.now) (standing standing_at.now) i instr.now) }
 {
-    let _whole = p.methods();
-    let (op, height, next) = (&instr.op, instr.height, instr.next.as_slice());
-    let before = Before::of(p, facts, MethodId(standing_at.m), i);
-    let here = Here { before, op, height };
-    let found = places_of(alloc, p, facts, standing_at.m, i, standing_at.method)?;
-    let places = found.as_slice();
-    add_goes_on(alloc, out, p, facts, table, standing_at, &here, next)?;
-    add_throws(alloc, out, standing_at, &here, places)?;
-    add_initializes(alloc, out, p, facts, table, standing_at, i, height, op)?;
-    add_calls(
-        alloc, out, p, facts, table, standing_at, i, next, places, op, height,
-    )?;
-    add_returns(out, standing_at, op, height)?;
-    add_writes(out, p, standing_at, op, height)?;
-    add_takes(out, p, facts, standing_at, i, op, height)
+    let here = Here {
+        before: Before::of(p, facts, MethodId(standing_at.m), i),
+        op: &instr.op,
+        height: instr.height,
+    };
+    let places = places_of(alloc, p, facts, standing_at.m, i, standing_at.method)?;
+    add_runs_by(
+        alloc,
+        out,
+        p,
+        facts,
+        table,
+        standing_at,
+        i,
+        &here,
+        places.as_slice(),
+        instr.next.as_slice(),
+    )
 }
 
 // Adds what follows where an instruction of a method is come to.
