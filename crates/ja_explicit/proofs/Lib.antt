@@ -3,3 +3,4 @@ pub mod Quiet
 pub mod Lists
 pub mod Looping
 pub mod Same
+pub mod Adding

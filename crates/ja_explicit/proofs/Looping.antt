@@ -1,5 +1,5 @@
 -- Loops over lists.
-use Rattle.std.proofs.Common.{◌≡◌, ℕ, zero, suc, ◌+◌, ◌-◌, ◌<◌, ◌≤◌, Bool, true, false, List, [], ◌∷◌, ◌++◌, Some, None, drop, refl, sym, ap, subst, ◌∙◌, arith, append_assoc, append-nil}
+use Rattle.std.proofs.Common.{◌≡◌, ℕ, zero, suc, ◌+◌, ◌-◌, ◌^◌, ◌<◌, ◌≤◌, Bool, true, false, List, [], ◌∷◌, ◌++◌, Some, None, drop, take, refl, sym, ap, subst, ◌∙◌, arith, append_assoc, append-nil, pow_mono}
 use Rattle.std.specs.Prelude.{slice_get, slice_index_or, length, ◌||◌}
 use Rattle.std.proofs.lemmas.Option.{same_Some}
 use Rattle.ja_facts.specs.Formulas.{any_below}
@@ -62,3 +62,18 @@ chain_none old new a b first none = first ∙ ap (λ t. old ++ t) (sym (append-n
 -- a length that was found
 pub past_found : {A : Type 0} (xs ys : List A) (n k : ℕ) → n ≡ length ys → ys ≡ xs → n ≤ k → length xs ≤ k
 past_found {A} xs ys n k e same le = subst (λ (zs : List A). length zs ≤ k) same (subst (λ m. m ≤ k) e le)
+
+-- as many words as so few bits have fit in one
+pub power_small : (n : ℕ) → n ≤ 12 → 2 ^ n < 4294967296
+power_small n le = let h = pow_mono le in omega (arith, h)
+
+-- how many numbers are gone over
+pub over_length : {A : Type 0} (f : ℕ → A) (from count : ℕ) → length (over (λ n. f n ∷ []) from count) ≡ count
+over_length f from zero = refl
+over_length f from (suc count) = ap suc (over_length f (suc from) count)
+
+pub taken_all : {A : Type 0} (xs : List A) (k : ℕ) → length xs ≤ k → take k xs ≡ xs
+taken_all [] zero le = refl
+taken_all [] (suc k) le = refl
+taken_all (x ∷ xs) zero le = absurd (omega (arith, le))
+taken_all (x ∷ xs) (suc k) le = ap (λ t. x ∷ t) (taken_all xs k (omega (arith, le)))

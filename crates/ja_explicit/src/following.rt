@@ -51,7 +51,8 @@ fn add_runs_by(
     )?;
     add_returns(out, standing_at, op, height)?;
     add_writes(out, p, standing_at, op, height)?;
-    add_takes(out, p, facts, standing_at, i, op, height)
+    add_takes(out, p, facts, standing_at, i, op, height)?;
+    Ok(())
 }
 
 // Adds what follows where a reached instruction is come to.
@@ -88,7 +89,8 @@ fn add_runs(
         &here,
         places.as_slice(),
         instr.next.as_slice(),
-    )
+    )?;
+    Ok(())
 }
 
 // Adds what follows where an instruction of a method is come to.

@@ -46,7 +46,8 @@ fn settle(
     let _whole = p.methods();
     let mut out = Seq::new(alloc);
     add_follows(alloc, &mut out, p, facts, table, item)?;
-    add_all(table, out.as_slice())
+    let new = add_all(table, out.as_slice())?;
+    Ok(new)
 }
 
 // Adds what the environment may call, and says whether something is new.
@@ -61,7 +62,8 @@ fn start(alloc: Global, p: &Program, facts: &Facts, table: &mut Table) -> Result
     let _whole = p.methods();
     let mut out = Seq::new(alloc);
     add_starts(alloc, &mut out, p, facts, table)?;
-    add_all(table, out.as_slice())
+    let new = add_all(table, out.as_slice())?;
+    Ok(new)
 }
 
 // Adds what follows of each fact of a table, those that come among them, and says whether something is

@@ -20,6 +20,14 @@ fn slot_count(method: &Method) -> u32
     method.locals + method.stack + 2
 }
 
+// The number of words of a frame.
+fn word_count(method: &Method) -> u32
+    requires { value_count method.now ≤ most_values }
+    ensures { result ≡ 2 ^ slot_count method.now }
+{
+    1 << slot_count(method)
+}
+
 // Whether a slot may be true, and whether it may be false, by a rule after a word.
 fn chance(to: &Method, rule: &Rule, from: &Method, word: u32, n: u32) -> Chance
     requires to { value_count to.now ≤ most_values }
@@ -45,7 +53,8 @@ fn chances(
     requires to { value_count to.now ≤ most_values }
     requires from { value_count from.now ≤ most_values }
     requires ready { IsReady rule.now }
-    ensures { IfOk result (λ list. list ≡ words.chances to.now (clauses_of rule.now) (words.says from.now word)) }
+    ensures chances { IfOk result (λ list. list ≡ words.chances to.now (clauses_of rule.now) (words.says from.now word)) }
+    ensures few { IfOk result (λ list. length list ≤ 12) }
 {
     let mut list = Seq::new(alloc);
     let count = slot_count(to);
@@ -100,7 +109,7 @@ pub fn next_words(
 {
     let allowed = chances(alloc, to, rule, from, word)?;
     let mut list = Seq::new(alloc);
-    let count = 1 << slot_count(to);
+    let count = word_count(to);
     for next in 0..count {
         add_word(&mut list, allowed.as_slice(), next)?;
     }

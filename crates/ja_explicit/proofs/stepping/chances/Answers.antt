@@ -1,8 +1,9 @@
-use Rattle.std.proofs.Common.{◌∷◌, [], ◌++◌, ap, ◌∙◌}
+use Rattle.std.proofs.Common.{◌≡◌, ◌≤◌, List, length, sym, arith, ◌∷◌, [], ◌++◌, ap, ◌∙◌}
 use Rattle.ja_explicit.specs.declared.chance.Chance.{Chance}
 use Rattle.ja_explicit.specs.InnerWords as words
 use Rattle.ja_explicit.specs.InnerRules.{clauses_of}
-use Rattle.ja_explicit.proofs.Looping.{over_more}
+use Rattle.ja_facts.specs.FactTables.{slot_count}
+use Rattle.ja_explicit.proofs.Looping.{over_more, over_length}
 use Rattle.ja_explicit.proofs.stepping.chances.Goals as goal
 
 pub loop-n-preserved : goal.loop-n-preserved
@@ -10,3 +11,6 @@ loop-n-preserved c =
     over_more (λ n. words.chance c.args.to.now (clauses_of c.args.rule.now) (words.says c.args.from.now c.args.word) n ∷ []) c.loop-n.n c.slot_count-count.result c.loop-n.list c.push.new.self
     (words.chances c.args.to.now (clauses_of c.args.rule.now) (words.says c.args.from.now c.args.word)) c.loop-n-test.true
     (c.in_ok-push.ensures.ok ∙ ap (λ (x : Chance). c.loop-n.list ++ x ∷ []) c.chance.ensures) c.loop-n.invariant
+
+pub returns-clause-few : goal.returns-clause-few
+returns-clause-few c = ?
