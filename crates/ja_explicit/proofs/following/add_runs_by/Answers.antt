@@ -9,8 +9,8 @@ use Rattle.ja_explicit.specs.InnerRules.{standing}
 use Rattle.ja_explicit.proofs.Looping.{chain}
 use Rattle.ja_explicit.proofs.following.add_runs_by.Goals as goal
 
-pub returns-in-Ok : goal.returns-in-Ok
-returns-in-Ok c =
+pub returns : goal.returns
+returns c =
     let p = c.args.p.now in
     let f = c.args.facts.now in
     let items = items_of c.args.table.now in
