@@ -31,7 +31,7 @@ no_at (c ∷ cells) m i a b (suc k, lt, is) = no_at cells m i a b (k, (omega ari
 
 gets_of : (op : Op) (height f : ℕ) (r : Slot) → Reads op height f r → Gets op f
 gets_of op height f r (reads_field e) = refl
-gets_of op height f r (reads_static e) = refl
+gets_of op height f r reads_static = refl
 
 module _ (p : Parts) (A : Analyses) (graph : GraphTable) (table : HeldTable) (calls : (m i n : ℕ) → A.classes (CallsMethod m i n) → Contains (targets_at graph m i).methods n) (holds : (f : ℕ) (c : Cell) → A.held (FieldHolds f c) → Has (slice_index_or table.fields f []) (cell_number p c)) where
   alone : (m i m' i' : ℕ) (a b c d : Assignment) (other : Fact) → Contains (At m' i' c d ∷ []) (At m i a b) → Contains (At m' i' c d ∷ []) other → IsRead p graph table m i other
@@ -52,16 +52,16 @@ module _ (p : Parts) (A : Analyses) (graph : GraphTable) (table : HeldTable) (ca
       (λ is. absurd (not_at m i a b is))
       (two_of (At m' i' c d) z (At m i a b) x)
 
+  answer_at : (f : ℕ) (cell : Cell) → Answers A f cell → (cell_number p cell ≡ f) ⊎ Has (slice_index_or table.fields f []) (cell_number p cell)
+  answer_at f _ itself = inl refl
+  answer_at f cell (held h) = inr (holds f cell h)
+
   reads_cell : (m i f height : ℕ) (op : Op) (r : Slot) (cell : Cell) → OpAt p m i op height → Reads op height f r → Answers A f cell → IsRead p graph table m i (Stored cell)
   reads_cell m i f height op r cell at reads answers = (
     f,
     record { instr = at.instr; found = at.found; gets = subst (λ (o : Op). Gets o f) (sym at.is_op) (gets_of op height f r reads) },
-    by_answer answers,
+    answer_at f cell answers,
   )
-    where
-      by_answer : Answers A f cell → (cell_number p cell ≡ f) ⊎ Has (slice_index_or table.fields f []) (cell_number p cell)
-      by_answer itself = inl refl
-      by_answer (held h) = inr (holds f cell h)
 
   pub reads : (facts : List Fact) (fact : Fact) → Rule p A facts fact → (m i : ℕ) (a b : Assignment) → Contains facts (At m i a b) → (other : Fact) → Contains facts other → IsRead p graph table m i other
   reads facts fact (initializer_called _ _) m i a b x other y = absurd (omega (arith, x.1))
@@ -69,7 +69,7 @@ module _ (p : Parts) (A : Analyses) (graph : GraphTable) (table : HeldTable) (ca
   reads facts fact (entry_called entry cells _) m i a b x other y = absurd (no_at cells m i a b x)
   reads facts fact (called _) m i a b x other y = alone m i _ _ a b _ _ other x y
   reads facts fact (initialized _ _) m i a b x other y = alone m i _ _ a b _ _ other x y
-  reads facts fact (begins {n} {c}) m i a b x other y = absurd (cc (one_of (Context n c) (At m i a b) x))
+  reads facts fact (begins {m = n} {a = c}) m i a b x other y = absurd (cc (one_of (Context n c) (At m i a b) x))
   reads facts fact (steps _ _ _ _) m i a b x other y = alone m i _ _ a b _ _ other x y
   reads facts fact (reads_stored_field {cell = cell} at _ _ gets _ answers) m i a b x other y = beside m i _ _ a b _ _ (Stored cell) other (λ n j e f is. cc is) (reads_cell _ _ _ _ _ _ cell at gets answers) x y
   reads facts fact (call_resumes {n = n} {c = c} {s = s} call _ _) m i a b x other y = beside m i _ _ a b _ _ (Normal n c s) other (λ k j e f is. cc is) (inl (calls _ _ n call.goes)) x y

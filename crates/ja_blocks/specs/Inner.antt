@@ -1,12 +1,9 @@
 -- How far the private functions have come.
 use Rattle.std.specs.Prelude.{◌≡◌, ℕ, suc, ◌<◌, ◌≤◌, false, List, Some, Contains, length, slice_get}
-use Rattle.ja_ir.specs.declared.program.Parts.{Parts}
 use Rattle.ja_ir.specs.declared.method.Instr.{Instr}
 use Rattle.ja_ir.specs.declared.block.Block.{Block}
 use Rattle.ja_ir.specs.Blocks.{is_branch}
-use Rattle.ja_facts.specs.FactTables.{GraphTable}
 use Rattle.ja_blocks.specs.declared.blocks.ProgramBlock.{ProgramBlock}
-use Rattle.ja_blocks.specs.Readers.{ReadsEnd, GetsAt, HasInstr, BlockReadsEnd, BlockGets, BlockBegins}
 
 -- the instruction at a place leads nowhere but to the next, if it is no branch
 abbrev pub GoesOn : ℕ → Instr → Type 0
@@ -23,12 +20,6 @@ AreSingles count row = (length row ≡ count) × ((k : ℕ) (block : Block) → 
 abbrev pub HasInstrBelow : ProgramBlock → ℕ → ((m i : ℕ) → Type 0) → Type 0
 HasInstrBelow block end P = (i : ℕ) × (block.first ≤ i) × (i < end) × P block.method.0 i
 
--- one of the first so many blocks
-abbrev pub EndsUpTo : Parts → GraphTable → List ProgramBlock → (count n b : ℕ) → Type 0
-EndsUpTo p graph blocks count n b = (b < count) × BlockReadsEnd p graph blocks n b
-
-abbrev pub GetsUpTo : Parts → List ProgramBlock → (count f b : ℕ) → Type 0
-GetsUpTo p blocks count f b = (b < count) × BlockGets p blocks f b
-
-abbrev pub BeginsUpTo : List ProgramBlock → (count m b : ℕ) → Type 0
-BeginsUpTo blocks count m b = (b < count) × BlockBegins blocks m b
+-- the number is one of the first so many, and related to the key
+abbrev pub UpTo : (count : ℕ) → (ℕ → ℕ → Type 0) → (k x : ℕ) → Type 0
+UpTo count R k x = (x < count) × R k x

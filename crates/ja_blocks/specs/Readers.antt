@@ -36,24 +36,23 @@ pub record HasInstr (block : ProgramBlock) (P : (m i : ℕ) → Type 0) : Type 0
   pub to : i ≤ block.last
   pub holds : P block.method.0 i
 
+-- this holds of block b of these
+pub record IsBlockWith (blocks : List ProgramBlock) (b : ℕ) (P : ProgramBlock → Type 0) : Type 0 where
+  pub block : ProgramBlock
+  pub at : slice_get blocks b ≡ Some block
+  pub holds : P block
+
 -- block b of these goes by how method n ends
-pub record BlockReadsEnd (p : Parts) (graph : GraphTable) (blocks : List ProgramBlock) (n b : ℕ) : Type 0 where
-  pub block : ProgramBlock
-  pub at : slice_get blocks b ≡ Some block
-  pub reads : HasInstr block (λ m i. ReadsEnd p graph m i n)
+abbrev pub BlockReadsEnd : Parts → GraphTable → List ProgramBlock → (n b : ℕ) → Type 0
+BlockReadsEnd p graph blocks n b = IsBlockWith blocks b (λ block. HasInstr block (λ m i. ReadsEnd p graph m i n))
 
--- block b of these reads field f
-pub record BlockGets (p : Parts) (blocks : List ProgramBlock) (f b : ℕ) : Type 0 where
-  pub block : ProgramBlock
-  pub at : slice_get blocks b ≡ Some block
-  pub gets : HasInstr block (λ m i. GetsAt p m i f)
+-- it reads field f
+abbrev pub BlockGets : Parts → List ProgramBlock → (f b : ℕ) → Type 0
+BlockGets p blocks f b = IsBlockWith blocks b (λ block. HasInstr block (λ m i. GetsAt p m i f))
 
--- block b of these begins method m: it goes by what the method may be called with
-pub record BlockBegins (blocks : List ProgramBlock) (m b : ℕ) : Type 0 where
-  pub block : ProgramBlock
-  pub at : slice_get blocks b ≡ Some block
-  pub is_method : block.method.0 ≡ m
-  pub is_first : block.first ≡ 0
+-- it begins method m, and so goes by what the method may be called with
+abbrev pub BlockBegins : List ProgramBlock → (m b : ℕ) → Type 0
+BlockBegins blocks m b = IsBlockWith blocks b (λ block. (block.method.0 ≡ m) × (block.first ≡ 0))
 
 -- by what was stored into the cell of this number, field f may hold something tainted: it is the field, or what the field refers to may reach it
 abbrev pub MayHold : HeldTable → (fields c f : ℕ) → Type 0

@@ -31,6 +31,7 @@ fn is_branch(op: &Op) -> bool
 
 /// Whether an instruction that is no branch leads nowhere but to the one behind it.
 fn goes_on(instr: &Instr, place: u64) -> bool
+    requires { place < 2 ^ 63 }
     ensures { IsTrue result → GoesOn place instr.now }
 {
     if is_branch(&instr.op) {
@@ -48,12 +49,10 @@ fn goes_on(instr: &Instr, place: u64) -> bool
 fn go_straight(code: &[Instr]) -> bool
     ensures { IsTrue result → GoStraight code.now }
 {
-    let mut place = 0;
-    for instr in code {
-        if !goes_on(instr, place) {
+    for place in 0..code.len() {
+        if !goes_on(&code[place], place as u64) {
             return false;
         }
-        place += 1;
     }
     true
 }

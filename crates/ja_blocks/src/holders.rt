@@ -1,7 +1,7 @@
-ghost use Rattle.std.specs.Prelude.{◌≡◌, ◌<◌, ◌^◌, IfOk, OnOk, length};
+ghost use Rattle.std.specs.Prelude.{◌≡◌, ◌↔◌, ◌<◌, ◌^◌, IfOk, OnOk, IsTrue, length};
 ghost use Rattle.ja_sets.specs.Sets.{Has};
 ghost use Rattle.ja_facts.specs.FactTables.{cell_count};
-ghost use Rattle.ja_blocks.specs.Index.{InList, IsIndex, IsMore};
+ghost use Rattle.ja_blocks.specs.Index.{IsIndex, IsNoted};
 ghost use Rattle.ja_blocks.specs.Readers.{MayHold};
 
 use crate::note::note;
@@ -12,14 +12,23 @@ use ja_ir::Program;
 use ja_sets::TokenSet;
 use std::alloc::Global;
 
+/// Whether a number is in a set.
+fn has(set: &TokenSet, x: u32) -> bool
+    ensures { IsTrue result ↔ Has set.now x }
+{
+    match set.next_from(x) {
+        Some(next) => next == x,
+        None => false,
+    }
+}
+
 /// Adds a field to the lists of the members of a set.
 fn note_members(lists: &mut Vec<Numbers>, set: &TokenSet, field: u64) -> Result<(), Memory>
     requires few { length lists.old.items < 2 ^ 32 }
-    ensures length { length lists.new.items ≡ length lists.old.items }
-    ensures more { OnOk result (IsMore (length lists.old.items) (InList lists.old.items) (InList lists.new.items) (λ k x. Has set.now k × (x ≡ field))) }
+    ensures { OnOk result (IsNoted lists.old.items lists.new.items (λ k x. Has set.now k × (x ≡ field))) }
 {
     for cell in 0..lists.len() as u32 {
-        if set.next_from(cell) == Some(cell) {
+        if has(set, cell) {
             note(lists, u64::from(cell), field)?;
         }
     }

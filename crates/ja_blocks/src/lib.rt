@@ -3,11 +3,9 @@
 
 mod blocks;
 mod holders;
-mod law;
 mod layout;
 mod note;
 mod readers;
 
 pub use blocks::{ProgramBlock, ProgramBlocks};
-pub use law::law_readers;
 pub use layout::{Layout, layout_of};

@@ -1,12 +1,11 @@
 ghost use Rattle.std.specs.Prelude.{◌≡◌, Contains, OnOk, length};
-ghost use Rattle.ja_blocks.specs.Index.{InList, IsMore};
+ghost use Rattle.ja_blocks.specs.Index.{IsNoted};
 
 use ja_base::{Memory, Numbers};
 
 /// Adds a number to the list of a key, where there is one.
 pub fn note(lists: &mut Vec<Numbers>, key: u64, number: u64) -> Result<(), Memory>
-    ensures length { length lists.new.items ≡ length lists.old.items }
-    ensures more { OnOk result (IsMore (length lists.old.items) (InList lists.old.items) (InList lists.new.items) (λ k x. (k ≡ key) × (x ≡ number))) }
+    ensures { OnOk result (IsNoted lists.old.items lists.new.items (λ k x. (k ≡ key) × (x ≡ number))) }
 {
     if key < lists.len() as u64 {
         lists[key as usize].push(number)?;
@@ -16,8 +15,7 @@ pub fn note(lists: &mut Vec<Numbers>, key: u64, number: u64) -> Result<(), Memor
 
 /// Adds a number to the lists of some keys.
 pub fn note_all(lists: &mut Vec<Numbers>, keys: &[u64], number: u64) -> Result<(), Memory>
-    ensures length { length lists.new.items ≡ length lists.old.items }
-    ensures more { OnOk result (IsMore (length lists.old.items) (InList lists.old.items) (InList lists.new.items) (λ k x. Contains keys.now k × (x ≡ number))) }
+    ensures { OnOk result (IsNoted lists.old.items lists.new.items (λ k x. Contains keys.now k × (x ≡ number))) }
 {
     for key in keys {
         note(lists, *key, number)?;

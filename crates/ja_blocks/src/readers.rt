@@ -1,7 +1,7 @@
 ghost use Rattle.std.specs.Prelude.{◌≡◌, ◌≤◌, ◌<◌, All, Contains, OnOk, IfOk, Some, length, slice_get};
 ghost use Rattle.ja_ir.specs.Lookup.{instr_at};
 ghost use Rattle.ja_blocks.specs.Blocks.{IsBlockIn};
-ghost use Rattle.ja_blocks.specs.Index.{InList, IsIndex, IsMore};
+ghost use Rattle.ja_blocks.specs.Index.{IsIndex, IsNoted};
 ghost use Rattle.ja_blocks.specs.Readers.{ReadsEnd, Gets, GetsAt, HasInstr, BlockReadsEnd, BlockGets, BlockBegins};
 
 use crate::blocks::ProgramBlock;
@@ -24,8 +24,7 @@ pub fn empty_lists(alloc: Global, count: usize) -> Result<Vec<Numbers>, Memory>
 
 /// Adds a number to the lists of class initialisers.
 fn note_inits(lists: &mut Vec<Numbers>, inits: &[MethodId], number: u64) -> Result<(), Memory>
-    ensures length { length lists.new.items ≡ length lists.old.items }
-    ensures more { OnOk result (IsMore (length lists.old.items) (InList lists.old.items) (InList lists.new.items) (λ k x. Contains inits.now (record { 0 = k }) × (x ≡ number))) }
+    ensures { OnOk result (IsNoted lists.old.items lists.new.items (λ k x. Contains inits.now (record { 0 = k }) × (x ≡ number))) }
 {
     for init in inits {
         note(lists, u64::from(init.0), number)?;
@@ -44,22 +43,22 @@ fn note_ends(
     block: u64,
 ) -> Result<(), Memory>
     requires { instr_at p.now m.0 i ≡ Some instr.now }
-    ensures length { length lists.new.items ≡ length lists.old.items }
-    ensures more { OnOk result (IsMore (length lists.old.items) (InList lists.old.items) (InList lists.new.items) (λ k x. ReadsEnd p.now graph.now m.0 i k × (x ≡ block))) }
+    ensures { OnOk result (IsNoted lists.old.items lists.new.items (λ k x. ReadsEnd p.now graph.now m.0 i k × (x ≡ block))) }
 {
     note_all(lists, graph.targets(m, i).methods.as_slice(), block)?;
-    note_inits(lists, p.inits_of(&instr.op), block)
+    note_inits(lists, p.inits_of(&instr.op), block)?;
+    Ok(())
 }
 
 /// Adds a block to the list of the field that an operation of it reads, if it reads one.
 fn note_field(lists: &mut Vec<Numbers>, op: &Op, block: u64) -> Result<(), Memory>
-    ensures length { length lists.new.items ≡ length lists.old.items }
-    ensures more { OnOk result (IsMore (length lists.old.items) (InList lists.old.items) (InList lists.new.items) (λ k x. Gets op.now k × (x ≡ block))) }
+    ensures { OnOk result (IsNoted lists.old.items lists.new.items (λ k x. Gets op.now k × (x ≡ block))) }
 {
     match op {
-        Op::GetField(field) | Op::GetStatic(field) => note(lists, u64::from(field.0), block),
-        _ => Ok(()),
+        Op::GetField(field) | Op::GetStatic(field) => note(lists, u64::from(field.0), block)?,
+        _ => (),
     }
+    Ok(())
 }
 
 /// For each method the blocks that begin it and those that go by how it ends, and for each field those that read it.
@@ -72,8 +71,7 @@ pub struct Readers {
 
 /// Adds a block to the list of the method that it begins, if it begins one.
 fn note_beginning(lists: &mut Vec<Numbers>, block: ProgramBlock, number: u64) -> Result<(), Memory>
-    ensures length { length lists.new.items ≡ length lists.old.items }
-    ensures more { OnOk result (IsMore (length lists.old.items) (InList lists.old.items) (InList lists.new.items) (λ k x. ((block.method.0 ≡ k) × (block.first ≡ 0)) × (x ≡ number))) }
+    ensures { OnOk result (IsNoted lists.old.items lists.new.items (λ k x. ((block.method.0 ≡ k) × (block.first ≡ 0)) × (x ≡ number))) }
 {
     if block.first == 0 {
         note(lists, u64::from(block.method.0), number)?;
@@ -91,9 +89,8 @@ fn note_block(
 ) -> Result<(), Memory>
     requires block { IsBlockIn p.now block }
     ensures begins { readers.new.begins ≡ readers.old.begins }
-    ensures length { (length readers.new.ends.items ≡ length readers.old.ends.items) × (length readers.new.fields.items ≡ length readers.old.fields.items) }
-    ensures ends { OnOk result (IsMore (length readers.old.ends.items) (InList readers.old.ends.items) (InList readers.new.ends.items) (λ k x. HasInstr block (λ m i. ReadsEnd p.now graph.now m i k) × (x ≡ number))) }
-    ensures fields { OnOk result (IsMore (length readers.old.fields.items) (InList readers.old.fields.items) (InList readers.new.fields.items) (λ k x. HasInstr block (λ m i. GetsAt p.now m i k) × (x ≡ number))) }
+    ensures ends { OnOk result (IsNoted readers.old.ends.items readers.new.ends.items (λ k x. HasInstr block (λ m i. ReadsEnd p.now graph.now m i k) × (x ≡ number))) }
+    ensures fields { OnOk result (IsNoted readers.old.fields.items readers.new.fields.items (λ k x. HasInstr block (λ m i. GetsAt p.now m i k) × (x ≡ number))) }
 {
     let method = p.methods().at(u64::from(block.method.0));
     for i in block.first..block.last + 1 {

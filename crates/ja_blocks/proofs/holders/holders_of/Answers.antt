@@ -5,3 +5,6 @@ loop-field-init c = ?
 
 pub loop-field-preserved : goal.loop-field-preserved
 loop-field-preserved c = ?
+
+pub returns : goal.returns
+returns c = ?

@@ -1,23 +1,21 @@
-use Rattle.std.proofs.Common.{◌≡◌, ◌<◌, ◌+◌, ℕ, List, length, take, refl, sym, ap, ◌∙◌, subst, arith}
+use Rattle.std.proofs.Common.{◌≡◌, ◌+◌, ℕ, List, length, take, get_or, refl, sym, ap, ◌∙◌, subst, arith}
 use Rattle.std.specs.Prelude.{Contains}
-use Rattle.std.proofs.Math.Seq.{take-length}
-use Rattle.ja_blocks.specs.Index.{InList, IsMore}
-use Rattle.ja_blocks.proofs.More.{more_none, more_step, taken_none, noted_more}
+use Rattle.std.proofs.lemmas.List.{get_or_default}
+use Rattle.ja_blocks.specs.Index.{IsNoted}
+use Rattle.ja_blocks.proofs.More.{noted_none, noted_then, taken_none, noted_more, noted_all}
 use Rattle.ja_blocks.proofs.note.note_all.Goals as goal
 
 pub loop-key-init : goal.loop-key-init
-loop-key-init c = (refl, more_none (length c.args.lists.now.items) (InList c.args.lists.now.items) (λ k x. Contains (take 0 c.args.keys.now) k × (x ≡ c.args.number)) (λ k x r. taken_none c.args.keys.now k r.0))
+loop-key-init c = noted_none c.args.lists.now.items (λ k x. Contains (take 0 c.args.keys.now) k × (x ≡ c.args.number)) (λ k x r. taken_none c.args.keys.now k r.0)
 
 pub loop-key-preserved : goal.loop-key-preserved
 loop-key-preserved c =
-    let first = c.args.lists.now.items in
-    let before = c.loop-key.lists.items in
-    let after = c.note.new.lists.items in
-    let long = c.loop-key.invariant.0 in
-    let step = c.in_ok-note.ensures.more in ?
+    let keys = c.args.keys.now in
+    let i = c.loop-key.key-index in
+    let y = get_or keys i 0 in
+    noted_then c.args.lists.now.items c.loop-key.lists.items c.note.new.lists.items (λ k x. Contains (take i keys) k × (x ≡ c.args.number)) (λ k x. (k ≡ y) × (x ≡ c.args.number)) (λ k x. Contains (take (i + 1) keys) k × (x ≡ c.args.number))
+        c.loop-key.invariant (c.in_ok-note.ensures)
+        (noted_more keys i y (λ k. k) c.args.number (λ k x. (k ≡ y) × (x ≡ c.args.number)) c.loop-key-test.true (sym (get_or_default keys i y 0 c.loop-key-test.true)) (λ k x. ((λ r. r), (λ r. r))))
 
-pub returns-clause-more : goal.returns-clause-more
-returns-clause-more c =
-    let first = c.args.lists.now.items in
-    let all : take c.loop-key.key-index c.args.keys.now ≡ c.args.keys.now = ap (λ n. take n c.args.keys.now) (let past = c.loop-key-test.false in let upto = c.loop-key.auto.key-index-end in omega arith) ∙ take-length c.args.keys.now in
-    subst (λ (ks : List ℕ). IsMore (length first) (InList first) (InList c.loop-key.lists.items) (λ k x. Contains ks k × (x ≡ c.args.number))) all c.loop-key.invariant.1
+pub returns : goal.returns
+returns c = noted_all c.args.keys.now c.loop-key.key-index (λ k. k) c.args.number c.args.lists.now.items c.loop-key.lists.items c.loop-key-test.false c.loop-key.auto.key-index-end c.loop-key.invariant
