@@ -6,7 +6,6 @@ use Rattle.std.proofs.lemmas.List.Elements.{Contains-append_left, Contains-push,
 use mathlib.Core.Logic.{dite}
 use native.Mathlib.Decide.{ℕ_discrete}
 use Rattle.std.proofs.Math.Seq.{take-length}
-use Rattle.ja_base.specs.declared.id.MethodId.{MethodId}
 use Rattle.ja_blocks.specs.Index.{InList, IsIndex, IsNoted}
 
 pub noted_none : (lists : List (List ℕ)) (R : ℕ → ℕ → Type 0) → ((k x : ℕ) → R k x → ⊥) → IsNoted lists lists R
@@ -48,20 +47,20 @@ noted lists key number lt = record { counted = length-set lists key (get_or list
   where
     exact : (k x : ℕ) → InList (set lists key (get_or lists key [] ++ number ∷ [])) k x ↔ (InList lists k x ⊎ ((k ≡ key) × (x ≡ number)))
     exact k x = dite (ℕ_discrete k key)
-      (λ e.
-      let here : get_or (set lists key (get_or lists key [] ++ number ∷ [])) k [] ≡ get_or lists key [] ++ number ∷ [] =
-      ap (λ j. get_or (set lists key (get_or lists key [] ++ number ∷ [])) j []) e ∙ get_or-set_same lists key _ [] lt in
-      let old : get_or lists k [] ≡ get_or lists key [] = ap (λ j. get_or lists j []) e in (
-        (λ has. ⊎_elim (λ before. inl (subst (λ (xs : List ℕ). Contains xs x) (sym old) before)) (λ is. inr (e, sym is)) (Contains-push_cases (get_or lists key []) number x (subst (λ (xs : List ℕ). Contains xs x) here has))),
-        (λ either. subst (λ (xs : List ℕ). Contains xs x) (sym here)
-            (⊎_elim (λ before. Contains-append_left (get_or lists key []) (number ∷ []) x (subst (λ (xs : List ℕ). Contains xs x) old before))
-            (λ is. subst (λ (y : ℕ). Contains (get_or lists key [] ++ number ∷ []) y) (sym is.1) (Contains-push (get_or lists key []) number)) either)),
-      ))
-      (λ ne.
-      let other = get_or-set_other lists key k (get_or lists key [] ++ number ∷ []) [] ne in (
-        (λ has. inl (subst (λ (xs : List ℕ). Contains xs x) other has)),
-        (λ either. ⊎_elim (λ before. subst (λ (xs : List ℕ). Contains xs x) (sym other) before) (λ is. absurd (ne is.0)) either),
-      ))
+        (λ e.
+        let here : get_or (set lists key (get_or lists key [] ++ number ∷ [])) k [] ≡ get_or lists key [] ++ number ∷ [] =
+        ap (λ j. get_or (set lists key (get_or lists key [] ++ number ∷ [])) j []) e ∙ get_or-set_same lists key _ [] lt in
+        let old : get_or lists k [] ≡ get_or lists key [] = ap (λ j. get_or lists j []) e in (
+          (λ has. ⊎_elim (λ before. inl (subst (λ (xs : List ℕ). Contains xs x) (sym old) before)) (λ is. inr (e, sym is)) (Contains-push_cases (get_or lists key []) number x (subst (λ (xs : List ℕ). Contains xs x) here has))),
+          (λ either. subst (λ (xs : List ℕ). Contains xs x) (sym here)
+              (⊎_elim (λ before. Contains-append_left (get_or lists key []) (number ∷ []) x (subst (λ (xs : List ℕ). Contains xs x) old before))
+              (λ is. subst (λ (y : ℕ). Contains (get_or lists key [] ++ number ∷ []) y) (sym is.1) (Contains-push (get_or lists key []) number)) either)),
+        ))
+        (λ ne.
+        let other = get_or-set_other lists key k (get_or lists key [] ++ number ∷ []) [] ne in (
+          (λ has. inl (subst (λ (xs : List ℕ). Contains xs x) other has)),
+          (λ either. ⊎_elim (λ before. subst (λ (xs : List ℕ). Contains xs x) (sym other) before) (λ is. absurd (ne is.0)) either),
+        ))
 
 -- nothing is among the first none
 pub taken_none : {X : Type 0} (xs : List X) (z : X) → Contains (take 0 xs) z → ⊥

@@ -1,12 +1,12 @@
 -- The blocks of one method more, in order.
-use Rattle.std.proofs.Common.{◌≡◌, ◌⊎◌, ℕ, suc, ◌+◌, ◌-◌, ◌<◌, ◌≤◌, ◌^◌, Bool, true, false, List, [], ◌∷◌, ◌++◌, length, get_or, refl, sym, ap, ◌∙◌, subst, inl, inr, ⊎_elim, arith, length-append}
-use Rattle.std.specs.Prelude.{◌↔◌, Some, All, AllPairs, Contains, map, slice_get}
+use Rattle.std.proofs.Common.{◌≡◌, ℕ, suc, ◌+◌, ◌-◌, ◌<◌, ◌≤◌, Bool, true, false, List, [], ◌++◌, length, get_or, refl, sym, ap, ◌∙◌, subst, inl, inr, ⊎_elim, arith, length-append}
+use Rattle.std.specs.Prelude.{Some, All, AllPairs, Contains, map, slice_get}
 use Rattle.std.specs.List.{sum_by}
 use Rattle.std.proofs.lemmas.List.{get_or-map, get_or_append_left, get_or-append_right, get_or_default, length-map}
 use Rattle.std.proofs.lemmas.List.Sums.{get_or-le-sum_by}
 use Rattle.std.proofs.lemmas.List.Elements.{Contains-append_left, Contains-append_right, Contains-append_cases, Contains-get_or}
 use Rattle.std.proofs.lemmas.Option.{slice_get_within, get_or_from_slice_get, slice_get-get_or}
-use native.Mathlib.Decide.{ℕ_discrete, dec_lt}
+use native.Mathlib.Decide.{dec_lt}
 use mathlib.Core.Logic.{dite}
 use Rattle.ja_ir.specs.declared.program.Parts.{Parts}
 use Rattle.ja_ir.specs.declared.method.Method.{Method}
@@ -16,8 +16,8 @@ use Rattle.ja_ir.specs.Whole.{IsWhole, NamesAll, LiesIn}
 use Rattle.ja_ir.proofs.Cuts.{all-at}
 use Rattle.ja_blocks.specs.declared.blocks.ProgramBlock.{ProgramBlock}
 use Rattle.ja_ir.specs.declared.method.Instr.{Instr}
-use Rattle.ja_blocks.specs.Blocks.{IsRun, IsAmong, AreRuns, in_method, IsBlockIn, HasPlace, Precedes, IsInSome, AreProgramBlocks}
-use Rattle.ja_blocks.specs.Inner.{GoesOn, GoStraight, AreSingles}
+use Rattle.ja_blocks.specs.Blocks.{IsRun, IsAmong, AreRuns, in_method, IsBlockIn, Precedes, IsInSome, AreProgramBlocks}
+use Rattle.ja_blocks.specs.Inner.{GoStraight, AreSingles}
 
 -- what a whole program says of a method
 pub stays_inside : (p : Parts) (m : ℕ) (method : Method) → IsWhole p → slice_get p.methods m ≡ Some method → StaysInside method

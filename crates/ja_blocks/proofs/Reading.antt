@@ -1,5 +1,5 @@
 -- What the rules of the equations go by.
-use Rattle.std.proofs.Common.{◌≡◌, ◌⊎◌, ℕ, suc, zero, ◌<◌, List, [], ◌∷◌, length, refl, sym, ap, ◌∙◌, subst, inl, inr, ⊎_elim, arith}
+use Rattle.std.proofs.Common.{◌≡◌, ◌⊎◌, ℕ, suc, zero, List, [], ◌∷◌, refl, sym, subst, inl, inr, ⊎_elim, arith}
 use Rattle.std.specs.Prelude.{Contains, slice_index_or}
 use Rattle.ja_ir.specs.declared.program.Parts.{Parts}
 use Rattle.ja_ir.specs.declared.op.Op.{Op}
@@ -11,9 +11,9 @@ use Rattle.ja_facts.specs.Held.{FieldHolds, Cell}
 use Rattle.ja_facts.specs.Analyses.{Analyses}
 use Rattle.ja_facts.specs.FactTables.{GraphTable, targets_at, HeldTable}
 use Rattle.ja_facts.specs.Told.{cell_number}
-use Rattle.ja_facts.specs.Formulas.{Assignment, Summary}
+use Rattle.ja_facts.specs.Formulas.{Assignment}
 use Rattle.ja_facts.specs.Equations.{Fact, Context, At, Normal, Threw, Stored, stored_facts, Reads, reads_field, reads_static, Answers, itself, held, Rule, initializer_called, constructor_called, entry_called, called, initialized, begins, steps, reads_stored_field, call_resumes, initializer_resumes, caught, callee_caught, leaves, callee_leaves, method_returns, method_ends, stored, taken}
-use Rattle.ja_blocks.specs.Readers.{Gets, GetsAt, IsRead}
+use Rattle.ja_blocks.specs.Readers.{Gets, IsRead}
 
 one_of : {X : Type 0} (x y : X) → Contains (x ∷ []) y → x ≡ y
 one_of x y (zero, lt, is) = is

@@ -1,6 +1,5 @@
 -- The blocks of a program.
 use Rattle.std.specs.Prelude.{◌≡◌, ℕ, suc, ◌<◌, ◌≤◌, ◌⊎◌, List, Some, AllPairs, Contains, length, slice_get}
-use Rattle.ja_base.specs.declared.id.MethodId.{MethodId}
 use Rattle.ja_ir.specs.declared.program.Parts.{Parts}
 use Rattle.ja_ir.specs.declared.method.Method.{Method}
 use Rattle.ja_ir.specs.declared.method.Instr.{Instr}

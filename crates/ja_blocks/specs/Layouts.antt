@@ -1,5 +1,5 @@
 -- What a layout is.
-use Rattle.std.specs.Prelude.{ℕ, length}
+use Rattle.std.specs.Prelude.{length}
 use Rattle.ja_ir.specs.declared.program.Parts.{Parts}
 use Rattle.ja_facts.specs.FactTables.{GraphTable, HeldTable, cell_count}
 use Rattle.ja_blocks.specs.declared.layout.Layout.{Layout}

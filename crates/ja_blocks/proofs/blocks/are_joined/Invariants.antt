@@ -1,4 +1,4 @@
-use Rattle.std.specs.Prelude.{◌<◌, ℕ, take}
+use Rattle.std.specs.Prelude.{◌<◌, ℕ}
 use Rattle.ja_blocks.specs.Blocks.{IsAmong}
 use Rattle.ja_blocks.proofs.blocks.are_joined.Given as goal
 

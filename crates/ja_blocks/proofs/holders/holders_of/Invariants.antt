@@ -1,5 +1,3 @@
-use Rattle.std.specs.Prelude.{◌≡◌, ◌<◌, ◌⊎◌, [], length, slice_index_or}
-use Rattle.ja_sets.specs.Sets.{Has}
 use Rattle.ja_facts.specs.FactTables.{cell_count}
 use Rattle.ja_blocks.specs.Index.{IsIndex}
 use Rattle.ja_blocks.specs.Readers.{MayHold}

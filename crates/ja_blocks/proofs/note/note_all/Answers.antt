@@ -1,7 +1,6 @@
-use Rattle.std.proofs.Common.{◌≡◌, ◌+◌, ℕ, List, length, take, get_or, refl, sym, ap, ◌∙◌, subst, arith}
+use Rattle.std.proofs.Common.{◌≡◌, ◌+◌, take, get_or, sym}
 use Rattle.std.specs.Prelude.{Contains}
 use Rattle.std.proofs.lemmas.List.{get_or_default}
-use Rattle.ja_blocks.specs.Index.{IsNoted}
 use Rattle.ja_blocks.proofs.More.{noted_none, noted_then, taken_none, noted_more, noted_all}
 use Rattle.ja_blocks.proofs.note.note_all.Goals as goal
 
@@ -14,8 +13,8 @@ loop-key-preserved c =
     let i = c.loop-key.key-index in
     let y = get_or keys i 0 in
     noted_then c.args.lists.now.items c.loop-key.lists.items c.note.new.lists.items (λ k x. Contains (take i keys) k × (x ≡ c.args.number)) (λ k x. (k ≡ y) × (x ≡ c.args.number)) (λ k x. Contains (take (i + 1) keys) k × (x ≡ c.args.number))
-        c.loop-key.invariant (c.in_ok-note.ensures)
-        (noted_more keys i y (λ k. k) c.args.number (λ k x. (k ≡ y) × (x ≡ c.args.number)) c.loop-key-test.true (sym (get_or_default keys i y 0 c.loop-key-test.true)) (λ k x. ((λ r. r), (λ r. r))))
+    c.loop-key.invariant (c.in_ok-note.ensures)
+    (noted_more keys i y (λ k. k) c.args.number (λ k x. (k ≡ y) × (x ≡ c.args.number)) c.loop-key-test.true (sym (get_or_default keys i y 0 c.loop-key-test.true)) (λ k x. ((λ r. r), (λ r. r))))
 
 pub returns : goal.returns
 returns c = noted_all c.args.keys.now c.loop-key.key-index (λ k. k) c.args.number c.args.lists.now.items c.loop-key.lists.items c.loop-key-test.false c.loop-key.auto.key-index-end c.loop-key.invariant

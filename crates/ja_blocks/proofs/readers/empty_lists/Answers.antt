@@ -1,4 +1,4 @@
-use Rattle.std.proofs.Common.{◌≡◌, ◌<◌, ℕ, List, [], subst, replicate, arith, ap, ◌∙◌}
+use Rattle.std.proofs.Common.{[], replicate, arith, ap, ◌∙◌}
 use Rattle.ja_blocks.proofs.More.{index_none}
 use Rattle.ja_blocks.proofs.readers.empty_lists.Goals as goal
 

@@ -1,4 +1,4 @@
-use Rattle.std.proofs.Common.{◌≡◌, ℕ, sym, ◌∙◌}
+use Rattle.std.proofs.Common.{◌≡◌, sym, ◌∙◌}
 use Rattle.ja_blocks.proofs.More.{noted_same}
 use Rattle.ja_blocks.proofs.readers.note_beginning.Goals as goal
 

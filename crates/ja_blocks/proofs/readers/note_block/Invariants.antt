@@ -1,4 +1,4 @@
-use Rattle.std.specs.Prelude.{◌≡◌, ◌<◌, ◌≤◌, ℕ}
+use Rattle.std.specs.Prelude.{◌≡◌}
 use Rattle.ja_blocks.specs.Index.{IsNoted}
 use Rattle.ja_blocks.specs.Readers.{ReadsEnd, GetsAt}
 use Rattle.ja_blocks.specs.Inner.{HasInstrBelow}

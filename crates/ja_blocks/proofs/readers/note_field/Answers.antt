@@ -1,5 +1,4 @@
-use Rattle.std.proofs.Common.{◌≡◌, ◌⊎◌, ℕ, sym, ap, ◌∙◌, subst, ⊎_elim}
-use Rattle.std.specs.Prelude.{◌↔◌}
+use Rattle.std.proofs.Common.{◌≡◌, ℕ, sym, ◌∙◌, subst, ⊎_elim}
 use Rattle.ja_ir.specs.declared.op.Op.{Op}
 use Rattle.ja_blocks.specs.Readers.{Gets}
 use Rattle.ja_blocks.proofs.More.{noted_same}

@@ -1,5 +1,4 @@
 use Rattle.std.specs.Prelude.{◌≡◌, Contains, take}
-use Rattle.ja_base.specs.declared.id.MethodId.{MethodId}
 use Rattle.ja_blocks.specs.Index.{IsNoted}
 use Rattle.ja_blocks.proofs.readers.note_inits.Given as goal
 
