@@ -1,0 +1,5 @@
+pub mod Problem
+pub mod Cells
+pub mod Solved
+pub mod Settled
+pub mod Reads

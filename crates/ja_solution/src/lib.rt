@@ -1,0 +1,6 @@
+//! What the cells of a solver say of a program, and when they mean the least solution of its equations of taint.
+#![tactic(auto)]
+
+mod law;
+
+pub use law::law_closed;
