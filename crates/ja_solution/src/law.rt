@@ -1,5 +1,6 @@
 ghost use Rattle.std.specs.Prelude.{◌↔◌};
 ghost use Rattle.ja_facts.specs.Equations.{Fact};
+ghost use Rattle.ja_blocks.specs.Blocks.{AreProgramBlocks};
 ghost use Rattle.ja_solution.specs.Problem.{Problem, Solution};
 ghost use Rattle.ja_solution.specs.Cells.{Values, Said};
 ghost use Rattle.ja_solution.specs.Solved.{AreBelow, IsClosed, AreExact};
@@ -8,5 +9,5 @@ ghost use Rattle.ja_solution.specs.Solved.{AreBelow, IsClosed, AreExact};
 /// each instruction is the least solution, and each of them is true exactly for its facts.
 pub fn law_closed()
     ensures said { (x : Problem) (v : Values) → AreBelow x v → IsClosed x v → (f : Fact) → Said x v f ↔ Solution x f }
-    ensures exact { (x : Problem) (v : Values) → AreBelow x v → IsClosed x v → AreExact x v }
+    ensures exact { (x : Problem) (v : Values) → AreProgramBlocks x.program x.blocks → AreBelow x v → IsClosed x v → AreExact x v }
 {}
