@@ -1,3 +1,8 @@
 pub mod Looks
 pub mod Unique
 pub mod Closed
+pub mod Placed
+pub mod Settling
+pub mod Caught
+pub mod Reading
+pub mod Transfer

@@ -3,4 +3,4 @@
 
 mod law;
 
-pub use law::law_closed;
+pub use law::{law_closed, law_settled, law_stays_settled};
