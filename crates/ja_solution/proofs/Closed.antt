@@ -19,6 +19,7 @@ use Rattle.ja_work.specs.declared.frame.Frame.{Frame}
 use Rattle.ja_work.specs.Frames.{read}
 use Rattle.ja_work.specs.Ends.{summary_of}
 use Rattle.ja_work.specs.Work.{IsMethod, IsSet, TellsSummary, entry_of, is_own, Saying, Says, before, of_context, of_return, of_throw}
+use Rattle.ja_solution.specs.declared.cells.CellName.TheVariants.{Called, Returned, Thrown, Before}
 use Rattle.ja_blocks.specs.declared.blocks.ProgramBlock.{ProgramBlock}
 use Rattle.ja_blocks.specs.Blocks.{HasPlace, AreProgramBlocks}
 use Rattle.ja_solution.specs.Problem.{Problem, known, Gives, Solution}
@@ -30,18 +31,18 @@ use Rattle.ja_solution.proofs.Unique.{one_block, has_first}
 module _ (x : Problem) (v : Values) (below : AreBelow x v) where
   -- a cell says facts of the least solution alone
   pub in_solution : (f : Fact) → InCells x v f → Solution x f
-  in_solution (Context m a) s = subst (λ b. Solution x (Context m b)) s.entry (((below.contexts m).set s.method s.frame s.is).facts s.variables s.holds)
+  in_solution (Context m a) s = subst (λ b. Solution x (Context m b)) s.entry (((below.cells (Called m)).0.set s.method s.frame s.is).facts s.variables s.holds)
   in_solution (Normal m a t) s =
-      let says = ((below.returns m).set s.method s.frame s.is).facts s.variables s.holds in
+      let says = ((below.cells (Returned m)).set s.method s.frame s.is).facts s.variables s.holds in
       subst (λ (q : Assignment × Summary). Solution x (Normal m q.0 q.1)) (λ i. (s.entry i, s.present.1 i)) says.0
   in_solution (Threw m a t) s =
-      let says = ((below.throws m).set s.method s.frame s.is).facts s.variables s.holds in
+      let says = ((below.cells (Thrown m)).set s.method s.frame s.is).facts s.variables s.holds in
       subst (λ (q : Assignment × Summary). Solution x (Threw m q.0 q.1)) (λ i. (s.entry i, s.present.1 i)) says.0
   in_solution (Stored c) s = below.stored c s.0 s.1
   in_solution (At m i a b) r =
       let s = r.shows in
       let is : IsMethod x.program (known x) x.frames r.block.method.0 s.method s.frame = subst (λ n. IsMethod x.program (known x) x.frames n s.method s.frame) (sym r.is_method) s.is in
-      let fact : Solution x (At r.block.method.0 r.block.first (entry_of s.method s.frame s.variables) (read s.frame 1 s.variables)) = ((below.befores r.number r.block r.at).set s.method s.frame is).facts s.variables s.holds in
+      let fact : Solution x (At r.block.method.0 r.block.first (entry_of s.method s.frame s.variables) (read s.frame 1 s.variables)) = ((below.cells (Before r.number) r.block r.at).set s.method s.frame is).facts s.variables s.holds in
       subst (λ (q : ℕ × ℕ × Assignment × Assignment). Solution x (At q.0 q.1 q.2 q.3)) (λ t. (r.is_method t, r.is_first t, s.entry t, s.present t)) fact
 
   said_solves : IsSolution (SaidBy x v) (Solution x)
@@ -115,28 +116,28 @@ cell_of x k block at a b =
 
 module _ (x : Problem) (v : Values) (blocks : AreProgramBlocks x.program x.blocks) (below : AreBelow x v) (closed : IsClosed x v) where
   from_block : (k : ℕ) (block : ProgramBlock) (at : slice_get x.blocks k ≡ Some block) (method : Method) (frame : Frame) (is : IsMethod x.program (known x) x.frames block.method.0 method frame) (u : Variables)
-      → ShowsBefore x v block.method.0 block.first (entry_of method frame u) (read frame 1 u) → v.befores k u ≡ true
+      → ShowsBefore x v block.method.0 block.first (entry_of method frame u) (read frame 1 u) → v.at (Before k) u ≡ true
   from_block k block at method frame is u r =
       let here : HasPlace r.block block.method.0 block.first = subst (λ (q : ℕ × ℕ). HasPlace r.block q.0 q.1) (λ t. (r.is_method t, r.is_first t)) (has_first x.program x.blocks blocks r.number r.block r.at) in
       let same : r.number ≡ k = one_block x.program x.blocks blocks r.number k r.block block block.method.0 block.first r.at at here (has_first x.program x.blocks blocks k block at) in
-      shown_here x block.method.0 method frame is (before block.first) (v.befores k) u (below.befores k block at) (subst (λ n. Shows x block.method.0 (v.befores n) (entry_of method frame u) (λ now. now ≡ read frame 1 u)) same r.shows)
+      shown_here x block.method.0 method frame is (before block.first) (v.at (Before k)) u (below.cells (Before k) block at) (subst (λ n. Shows x block.method.0 (v.at (Before n)) (entry_of method frame u) (λ now. now ≡ read frame 1 u)) same r.shows)
 
 pub exact : (x : Problem) (v : Values) → AreProgramBlocks x.program x.blocks → AreBelow x v → IsClosed x v → AreExact x v
 exact x v blocks below closed = record {
   contexts = λ m method frame is u. (
-    (λ e. ((below.contexts m).set method frame is).facts u e),
-    (λ fact. entered_here x m method frame is (v.contexts m) u (below.contexts m) (below.entries m) (solution_in_cells x v closed (Context m (entry_of method frame u)) refl fact)),
+    (λ e. ((below.cells (Called m)).0.set method frame is).facts u e),
+    (λ fact. entered_here x m method frame is (v.at (Called m)) u (below.cells (Called m)).0 (below.cells (Called m)).1 (solution_in_cells x v closed (Context m (entry_of method frame u)) refl fact)),
   );
   returns = λ m method frame is u. (
-    (λ e. ((below.returns m).set method frame is).facts u e),
-    (λ fact. summary_here x m method frame is of_return (v.returns m) u (below.returns m) fact.1 (solution_in_cells x v closed (Normal m (entry_of method frame u) (summary_of (read frame 1 u))) refl fact.0)),
+    (λ e. ((below.cells (Returned m)).set method frame is).facts u e),
+    (λ fact. summary_here x m method frame is of_return (v.at (Returned m)) u (below.cells (Returned m)) fact.1 (solution_in_cells x v closed (Normal m (entry_of method frame u) (summary_of (read frame 1 u))) refl fact.0)),
   );
   throws = λ m method frame is u. (
-    (λ e. ((below.throws m).set method frame is).facts u e),
-    (λ fact. summary_here x m method frame is of_throw (v.throws m) u (below.throws m) fact.1 (solution_in_cells x v closed (Threw m (entry_of method frame u) (summary_of (read frame 1 u))) refl fact.0)),
+    (λ e. ((below.cells (Thrown m)).set method frame is).facts u e),
+    (λ fact. summary_here x m method frame is of_throw (v.at (Thrown m)) u (below.cells (Thrown m)) fact.1 (solution_in_cells x v closed (Threw m (entry_of method frame u) (summary_of (read frame 1 u))) refl fact.0)),
   );
   befores = λ k block method frame at is u. (
-    (λ e. ((below.befores k block at).set method frame is).facts u e),
+    (λ e. ((below.cells (Before k) block at).set method frame is).facts u e),
     (λ fact. from_block x v blocks below closed k block at method frame is u (solution_in_cells x v closed (At block.method.0 block.first (entry_of method frame u) (read frame 1 u)) (cell_of x k block at (entry_of method frame u) (read frame 1 u)) fact)),
   );
   stored = λ c is. (below.stored c is, (λ fact. (solution_in_cells x v closed (Stored c) refl fact).1));

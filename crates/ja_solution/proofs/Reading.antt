@@ -8,6 +8,7 @@ use native.Mathlib.Decide.{ℕ_discrete}
 use mathlib.Core.Logic.{dite}
 use Rattle.ja_ir.specs.declared.method.Method.{Method}
 use Rattle.ja_ir.specs.declared.method.Instr.{Instr}
+use Rattle.ja_ir.specs.declared.entry.Entry.{Entry}
 use Rattle.ja_ir.specs.Lookup.{code_of, instr_at, Leads}
 use Rattle.ja_ir.specs.Handlers.{Inside, dest}
 use Rattle.ja_ir.specs.Blocks.{IsLeader, handles}
@@ -64,17 +65,17 @@ module _ (x : Problem) (blocks : AreProgramBlocks x.program x.blocks) (number : 
   by_at m i a b ps f gives place y has =
       read_used m i place y (reads x.program (known x) x.facts.graph x.facts.holds (calls_listed x) (held_listed x) (At m i a b ∷ ps) f gives m i a b (0, omega arith, refl) y has)
 
-  stored_used : (cells : List Cell) (m : ℕ) (a : Assignment) → Has block (applied_at (stored_facts cells) (Context m a)) → (y : Fact) → Contains (stored_facts cells) y → IsUsed y
-  stored_used [] m a has y (k, lt, is) = absurd (omega arith)
-  stored_used (c ∷ cells) m a has y (zero, lt, is) = subst IsUsed is (inr (inr (let from = has.1 in omega arith)))
-  stored_used (c ∷ []) m a has y (suc k, lt, is) = absurd (omega arith)
-  stored_used (c ∷ d ∷ cells) m a has y (suc k, lt, is) = stored_used (d ∷ cells) m a has y (k, omega arith, is)
+  stored_used : (entry : Entry) → Contains x.program.entries entry → (cells : List Cell) (a : Assignment) → Has block (applied_at (stored_facts cells) (Context entry.method.0 a)) → (y : Fact) → Contains (stored_facts cells) y → IsUsed y
+  stored_used entry listed [] a has y (k, lt, is) = absurd (omega arith)
+  stored_used entry listed (c ∷ cells) a has y (zero, lt, is) = subst IsUsed is (inr (inr (record { entry = entry; listed = listed; is_method = has.0; is_first = (let from = has.1 in omega arith) })))
+  stored_used entry listed (c ∷ []) a has y (suc k, lt, is) = absurd (omega arith)
+  stored_used entry listed (c ∷ d ∷ cells) a has y (suc k, lt, is) = stored_used entry listed (d ∷ cells) a has y (k, omega arith, is)
 
   -- the premises of a rule that is applied in the block
   pub premise_used : (ps : List Fact) (f : Fact) → Gives x ps f → Has block (applied_at ps f) → (y : Fact) → Contains ps y → IsUsed y
   premise_used ps f (initializer_called is nothing) place y has = absurd (none_of y has)
   premise_used ps f (constructor_called entry objects is nothing) place y has = absurd (none_of y has)
-  premise_used ps f (entry_called {a = a} entry cells may) place y has = stored_used cells entry.method.0 a place y has
+  premise_used ps f (entry_called {a = a} entry cells may) place y has = stored_used entry may.is_entry.listed cells a place y has
   premise_used ps f (called {m = m} {i = i} {c = c} {b = b} call) place y has = by_at m i c b [] f (called call) place y has
   premise_used ps f (initialized {m = m} {i = i} {c = c} {b = b} init nothing) place y has = by_at m i c b [] f (initialized init nothing) place y has
   premise_used ps f (begins {m = m} {a = a}) place y (zero, lt, is) = subst IsUsed is (inr (place.0, (let from = place.1 in omega arith)))

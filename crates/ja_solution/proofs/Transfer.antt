@@ -9,6 +9,7 @@ use Rattle.ja_facts.proofs.LeastLaws.{Each-weaker, Least-is_solution}
 use Rattle.ja_facts.specs.Held.{Cell}
 use Rattle.ja_facts.specs.Formulas.{Assignment, Summary}
 use Rattle.ja_facts.specs.Equations.{Fact, Context, At, Normal, Threw, Stored, IsWarned}
+use Rattle.ja_solution.specs.declared.cells.CellName.TheVariants.{Called, Returned, Thrown, Before}
 use Rattle.ja_blocks.specs.declared.blocks.ProgramBlock.{ProgramBlock}
 use Rattle.ja_blocks.specs.Blocks.{HasPlace, AreProgramBlocks}
 use Rattle.ja_solution.specs.Problem.{Problem, Gives}
@@ -34,11 +35,11 @@ shows_more x m φ ψ a Now less s = record { method = s.method; frame = s.frame;
 
 -- cells that grow say what they said
 pub in_grown : (x : Problem) (v w : Values) → Grow v w → (f : Fact) → InCells x v f → InCells x w f
-in_grown x v w grow (Context m a) s = shows_more x m (v.contexts m) (w.contexts m) a (λ now. Unit {0}) (grow.contexts m) s
-in_grown x v w grow (Normal m a t) s = shows_more x m (v.returns m) (w.returns m) a _ (grow.returns m) s
-in_grown x v w grow (Threw m a t) s = shows_more x m (v.throws m) (w.throws m) a _ (grow.throws m) s
+in_grown x v w grow (Context m a) s = shows_more x m (v.at (Called m)) (w.at (Called m)) a (λ now. Unit {0}) (grow.cells (Called m)) s
+in_grown x v w grow (Normal m a t) s = shows_more x m (v.at (Returned m)) (w.at (Returned m)) a _ (grow.cells (Returned m)) s
+in_grown x v w grow (Threw m a t) s = shows_more x m (v.at (Thrown m)) (w.at (Thrown m)) a _ (grow.cells (Thrown m)) s
 in_grown x v w grow (Stored c) s = (s.0, grow.stored _ s.1)
-in_grown x v w grow (At m i a b) r = record { number = r.number; block = r.block; at = r.at; is_method = r.is_method; is_first = r.is_first; shows = shows_more x m (v.befores r.number) (w.befores r.number) a _ (grow.befores r.number) r.shows }
+in_grown x v w grow (At m i a b) r = record { number = r.number; block = r.block; at = r.at; is_method = r.is_method; is_first = r.is_first; shows = shows_more x m (v.at (Before r.number)) (w.at (Before r.number)) a _ (grow.cells (Before r.number)) r.shows }
 
 -- what is said of a fact that has a cell, its cell says
 cell_says : (x : Problem) (v : Values) (n : ℕ) (f : Fact) → has_cell x f ≡ true → Iterate (SaidBy x v) n f → InCells x v f

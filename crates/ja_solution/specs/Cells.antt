@@ -12,16 +12,15 @@ use Rattle.ja_work.specs.declared.frame.Frame.{Frame}
 use Rattle.ja_work.specs.Frames.{read}
 use Rattle.ja_work.specs.Ends.{summary_of}
 use Rattle.ja_work.specs.Work.{IsMethod, TellsSummary, entry_of}
+use Rattle.ja_solution.specs.declared.cells.CellName.{CellName}
+use Rattle.ja_solution.specs.declared.cells.CellName.TheVariants.{Called, Returned, Thrown, Before}
 use Rattle.ja_blocks.specs.declared.blocks.ProgramBlock.{ProgramBlock}
 use Rattle.ja_solution.specs.Problem.{Problem, known, Gives}
 
--- what the cells mean: of each method which parameters may be true when it is called, how it may return and how it may throw; of each block
--- what may be true before it; of each field or bag whether something tainted may have been stored there; and of each site whether it is warned
+-- what the cells mean: each one with a diagram, as a function of variables; whether something tainted may have been stored into the field or bag
+-- of this number; and whether the site is warned
 pub record Values : Type 0 where
-  pub contexts : ℕ → Function
-  pub returns : ℕ → Function
-  pub throws : ℕ → Function
-  pub befores : ℕ → Function
+  pub at : CellName → Function
   pub stored : ℕ → Bool
   pub warned : ℕ → Bool
 
@@ -42,14 +41,14 @@ pub record ShowsBefore (x : Problem) (v : Values) (m i : ℕ) (a b : Assignment)
   pub at : slice_get x.blocks number ≡ Some block
   pub is_method : block.method.0 ≡ m
   pub is_first : block.first ≡ i
-  pub shows : Shows x m (v.befores number) a (λ now. now ≡ b)
+  pub shows : Shows x m (v.at (Before number)) a (λ now. now ≡ b)
 
 -- a cell says the fact
 abbrev pub InCells : Problem → Values → Fact → Type 0
-InCells x v (Context m a) = Shows x m (v.contexts m) a (λ now. Unit {0})
+InCells x v (Context m a) = Shows x m (v.at (Called m)) a (λ now. Unit {0})
 InCells x v (At m i a b) = ShowsBefore x v m i a b
-InCells x v (Normal m a s) = Shows x m (v.returns m) a (λ now. TellsSummary now × (summary_of now ≡ s))
-InCells x v (Threw m a s) = Shows x m (v.throws m) a (λ now. TellsSummary now × (summary_of now ≡ s))
+InCells x v (Normal m a s) = Shows x m (v.at (Returned m)) a (λ now. TellsSummary now × (summary_of now ≡ s))
+InCells x v (Threw m a s) = Shows x m (v.at (Thrown m)) a (λ now. TellsSummary now × (summary_of now ≡ s))
 InCells x v (Stored c) = IsCell x.program c × (v.stored (cell_number x.program c) ≡ true)
 
 -- the block begins at instruction i of method m

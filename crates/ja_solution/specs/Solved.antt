@@ -13,6 +13,8 @@ use Rattle.ja_work.specs.declared.frame.Frame.{Frame}
 use Rattle.ja_work.specs.Frames.{read}
 use Rattle.ja_work.specs.Ends.{summary_of}
 use Rattle.ja_work.specs.Work.{IsMethod, IsSet, TellsSummary, entry_of, Saying, Says, before, of_context, of_return, of_throw}
+use Rattle.ja_solution.specs.declared.cells.CellName.{CellName}
+use Rattle.ja_solution.specs.declared.cells.CellName.TheVariants.{Called, Returned, Thrown, Before}
 use Rattle.ja_blocks.specs.declared.blocks.ProgramBlock.{ProgramBlock}
 use Rattle.ja_solution.specs.Problem.{Problem, known, Gives, Solution}
 use Rattle.ja_solution.specs.Cells.{Values, InCells, has_cell, Said}
@@ -22,14 +24,16 @@ pub record IsPartOf (x : Problem) (m : ℕ) (saying : Saying x.program (known x)
   pub set : (method : Method) (frame : Frame) → IsMethod x.program (known x) x.frames m method frame → IsSet method frame (Says x.program (known x) m saying) φ
   pub low : IsLow φ
 
+-- the function is a part of what this cell is for; a context looks at the copy at the entry alone
+abbrev pub IsOfCell : Problem → CellName → Function → Type 0
+IsOfCell x (Called m) φ = IsPartOf x m of_context φ × ((u : ℕ) → u % 4 ≡ 1 → IsFree u φ)
+IsOfCell x (Returned m) φ = IsPartOf x m of_return φ
+IsOfCell x (Thrown m) φ = IsPartOf x m of_throw φ
+IsOfCell x (Before k) φ = (block : ProgramBlock) → slice_get x.blocks k ≡ Some block → IsPartOf x block.method.0 (before block.first) φ
+
 -- each cell lies below the least solution
 pub record AreBelow (x : Problem) (v : Values) : Type 0 where
-  pub contexts : (m : ℕ) → IsPartOf x m of_context (v.contexts m)
-  -- a context looks at the entry alone
-  pub entries : (m u : ℕ) → u % 4 ≡ 1 → IsFree u (v.contexts m)
-  pub returns : (m : ℕ) → IsPartOf x m of_return (v.returns m)
-  pub throws : (m : ℕ) → IsPartOf x m of_throw (v.throws m)
-  pub befores : (k : ℕ) (block : ProgramBlock) → slice_get x.blocks k ≡ Some block → IsPartOf x block.method.0 (before block.first) (v.befores k)
+  pub cells : (name : CellName) → IsOfCell x name (v.at name)
   pub stored : (c : Cell) → IsCell x.program c → v.stored (cell_number x.program c) ≡ true → Solution x (Stored c)
   pub warned : (k : ℕ) (site : Site) → slice_get x.program.sites k ≡ Some site → v.warned k ≡ true → IsWarned x.program (Solution x) site
 
@@ -41,12 +45,12 @@ pub record IsClosed (x : Problem) (v : Values) : Type 0 where
 -- each cell means the least solution: it is true exactly for its facts
 pub record AreExact (x : Problem) (v : Values) : Type 0 where
   pub contexts : (m : ℕ) (method : Method) (frame : Frame) → IsMethod x.program (known x) x.frames m method frame → (u : Variables)
-      → (v.contexts m u ≡ true) ↔ Solution x (Context m (entry_of method frame u))
+      → (v.at (Called m) u ≡ true) ↔ Solution x (Context m (entry_of method frame u))
   pub returns : (m : ℕ) (method : Method) (frame : Frame) → IsMethod x.program (known x) x.frames m method frame → (u : Variables)
-      → (v.returns m u ≡ true) ↔ (Solution x (Normal m (entry_of method frame u) (summary_of (read frame 1 u))) × TellsSummary (read frame 1 u))
+      → (v.at (Returned m) u ≡ true) ↔ (Solution x (Normal m (entry_of method frame u) (summary_of (read frame 1 u))) × TellsSummary (read frame 1 u))
   pub throws : (m : ℕ) (method : Method) (frame : Frame) → IsMethod x.program (known x) x.frames m method frame → (u : Variables)
-      → (v.throws m u ≡ true) ↔ (Solution x (Threw m (entry_of method frame u) (summary_of (read frame 1 u))) × TellsSummary (read frame 1 u))
+      → (v.at (Thrown m) u ≡ true) ↔ (Solution x (Threw m (entry_of method frame u) (summary_of (read frame 1 u))) × TellsSummary (read frame 1 u))
   pub befores : (k : ℕ) (block : ProgramBlock) (method : Method) (frame : Frame) → slice_get x.blocks k ≡ Some block → IsMethod x.program (known x) x.frames block.method.0 method frame → (u : Variables)
-      → (v.befores k u ≡ true) ↔ Solution x (At block.method.0 block.first (entry_of method frame u) (read frame 1 u))
+      → (v.at (Before k) u ≡ true) ↔ Solution x (At block.method.0 block.first (entry_of method frame u) (read frame 1 u))
   pub stored : (c : Cell) → IsCell x.program c → (v.stored (cell_number x.program c) ≡ true) ↔ Solution x (Stored c)
   pub warned : (k : ℕ) (site : Site) → slice_get x.program.sites k ≡ Some site → (v.warned k ≡ true) ↔ IsWarned x.program (Solution x) site
