@@ -3,3 +3,5 @@ pub mod Cells
 pub mod Solved
 pub mod Settled
 pub mod Reads
+pub mod Nodes
+pub mod Marks

@@ -2,7 +2,11 @@
 #![tactic(auto)]
 
 mod cells;
+mod given;
 mod law;
+mod state;
 
-pub use cells::CellName;
+pub use cells::{CellName, Cells, Counts};
+pub use given::Given;
 pub use law::{law_closed, law_settled, law_stays_settled};
+pub use state::{State, raise};
