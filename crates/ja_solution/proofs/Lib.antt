@@ -6,3 +6,6 @@ pub mod Settling
 pub mod Caught
 pub mod Reading
 pub mod Transfer
+pub mod Marking
+pub mod Keeping
+pub mod Raised

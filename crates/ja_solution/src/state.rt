@@ -26,14 +26,21 @@ pub struct State {
     pub dirty: Vec<bool>,
 }
 
+/// Marks a block, where there is one.
+fn mark_one(dirty: &mut Vec<bool>, number: u64)
+    ensures { AreMarked dirty.old.items dirty.new.items (λ k. k ≡ number) }
+{
+    if number < dirty.len() as u64 {
+        dirty[number as usize] = true;
+    }
+}
+
 /// Marks these blocks.
 fn mark(dirty: &mut Vec<bool>, numbers: &[u64])
     ensures { AreMarked dirty.old.items dirty.new.items (λ k. Contains numbers.now k) }
 {
     for number in numbers {
-        if *number < dirty.len() as u64 {
-            dirty[*number as usize] = true;
-        }
+        mark_one(dirty, *number);
     }
 }
 
@@ -55,7 +62,7 @@ fn mark_readers(dirty: &mut Vec<bool>, layout: &Layout, name: CellName)
         CellName::Returned(m) | CellName::Thrown(m) => {
             mark_list(dirty, layout.callers.as_slice(), u64::from(m))
         }
-        CellName::Before(k) => mark(dirty, &[u64::from(k)]),
+        CellName::Before(k) => mark_one(dirty, u64::from(k)),
     }
 }
 
