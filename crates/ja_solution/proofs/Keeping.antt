@@ -97,3 +97,11 @@ module _ (given : Given) (is : IsGiven given) (aim : Tree → Type 0) (for_work 
       within [] i y e = absurd (cc e)
       within (z ∷ xs) zero y e = omega arith
       within (z ∷ xs) (suc i) y e = omega (arith, within xs i y e)
+
+-- what a known node means, when more is known
+pub cell_kept : (x : Problem) (name : CellName) (k l : Words) (n : ℕ) → Keeps k l → Knows k n → IsOfCell x name (meaning k n) → IsOfCell x name (meaning l n)
+cell_kept x name k l n keeps knows of = subst (IsOfCell x name) (sym (keeps n knows).1) of
+
+pub joined_kept : (k l : Words) (m old n made : ℕ) → Keeps k l → Knows k m → Knows k n → old ≡ m → IsMeant l made (either (meaning k old) (meaning k n)) → IsMeant l made (either (meaning l m) (meaning l n))
+joined_kept k l m old n made keeps first second same is =
+    (is.0, is.1 ∙ ap (λ q. either (meaning k q) (meaning k n)) same ∙ sym (λ i. either ((keeps m first).1 i) ((keeps n second).1 i)))
