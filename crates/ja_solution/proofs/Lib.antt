@@ -7,5 +7,7 @@ pub mod Caught
 pub mod Reading
 pub mod Transfer
 pub mod Marking
+pub mod Named
 pub mod Keeping
 pub mod Raised
+pub mod Flagged

@@ -10,10 +10,11 @@ use Rattle.ja_bdd.specs.Meaning.{meaning, IsMeant}
 use Rattle.ja_join.specs.Steps.{IsBelow}
 use Rattle.ja_facts.specs.Formulas.{Assignment, Summary}
 use Rattle.ja_facts.specs.Held.{Cell}
+use Rattle.ja_facts.specs.Told.{cell_number, IsCell}
 use Rattle.ja_facts.specs.Equations.{Fact, Context, At, Normal, Threw, Stored}
 use Rattle.ja_blocks.specs.declared.blocks.ProgramBlock.{ProgramBlock}
 use Rattle.ja_blocks.specs.Blocks.{IsBlockIn, HasPlace, AreProgramBlocks}
-use Rattle.ja_blocks.specs.Readers.{ReadsEnd, HasInstr}
+use Rattle.ja_blocks.specs.Readers.{ReadsEnd, GetsAt, HasInstr}
 use Rattle.ja_work.specs.Ends.{summary_of}
 use Rattle.ja_work.specs.Work.{TellsSummary}
 use Rattle.ja_solution.specs.declared.cells.CellName.{CellName}
@@ -27,8 +28,9 @@ use Rattle.ja_solution.specs.Solved.{IsOfCell, AreBelow}
 use Rattle.ja_solution.specs.Settled.{IsSettled, AreSettled}
 use Rattle.ja_solution.specs.Reads.{BlockReads, ReadsNoMore, Grow}
 use Rattle.ja_solution.specs.Nodes.{row, number_at, values_of, same_cell, problem_of, IsGiven, IsCellName, AreSized, IsState, is_dirty}
-use Rattle.ja_solution.specs.Marks.{AreMarked, ReadsCell}
+use Rattle.ja_solution.specs.Marks.{AreMarked, ReadsCell, ReadsStored}
 use Rattle.ja_solution.proofs.Unique.{listed_at, one_block, has_first}
+use Rattle.ja_solution.proofs.Named.{cell_lt, field_named}
 use Rattle.ja_solution.proofs.Transfer.{stays_settled}
 use Rattle.ja_solution.proofs.Keeping.{either_cell, grow_same}
 
@@ -59,7 +61,7 @@ cell_itself (Before m) = eq-eqb m m refl
 
 -- a block that reads none of what has changed
 module _ (given : Given) (is : IsGiven given) (v w : Values) (number : ℕ) (block : ProgramBlock) (at : slice_get given.layout.now.blocks number ≡ Some block)
-    (same : (name : CellName) → (ReadsCell given.layout.now name number → ⊥) ⊎ (w.at name ≡ v.at name)) (flags : (n : ℕ) → w.stored n ≡ v.stored n) where
+    (same : (name : CellName) → (ReadsCell given.layout.now name number → ⊥) ⊎ (w.at name ≡ v.at name)) (flags : (n : ℕ) → (ReadsStored given.layout.now given.program.now.entries n number → ⊥) ⊎ (w.stored n ≡ v.stored n)) where
   listed : (name : CellName) → ReadsCell given.layout.now name number → w.at name ≡ v.at name
   listed name reads = ⊎_elim (λ none. absurd (none reads)) (λ e. e) (same name)
 
@@ -74,11 +76,22 @@ module _ (given : Given) (is : IsGiven given) (v w : Values) (number : ℕ) (blo
   ends_listed : (n : ℕ) → n < length given.program.now.methods → HasInstr block (λ m i. ReadsEnd given.program.now given.facts.now.graph m i n) → ReadsCell given.layout.now (Returned n) number
   ends_listed n lt reads = (is.layout.callers.exact n number lt).1 (record { block = block; at = at; holds = reads })
 
+  stored_listed : (c : Cell) → IsCell given.program.now c → BlockReads (problem_of given) block (Stored c) → ReadsStored given.layout.now given.program.now.entries (cell_number given.program.now c) number
+  stored_listed c is_cell (inl has) =
+      let read = has.holds in
+      let f : ℕ = read.0 in
+      let gets : GetsAt given.program.now block.method.0 has.i f = read.1 in
+      let lt : f < length given.program.now.fields = field_named given.program.now is.whole block.method.0 has.i f gets in
+      inl (f,
+        (is.layout.holders.exact (cell_number given.program.now c) f (cell_lt given.program.now c is_cell)).1 (lt, read.2),
+        (is.layout.readers.exact f number lt).1 (record { block = block; at = at; holds = record { i = has.i; from = has.from; to = has.to; holds = gets } }))
+  stored_listed c is_cell (inr begins) = inr (begins.entry, begins.listed, begins_listed begins.entry.method.0 begins.is_method begins.is_first)
+
   pub unread : ReadsNoMore (problem_of given) block v w
   unread (Context m a) (is_method, is_first) s = subst (λ φ. Shows (problem_of given) m φ a (λ now. Unit {0})) (listed (Called m) (begins_listed m is_method is_first)) s
   unread (Normal n a t) reads s = subst (λ φ. Shows (problem_of given) n φ a (λ now. TellsSummary now × (summary_of now ≡ t))) (listed (Returned n) (ends_listed n (slice_get_within given.program.now.methods n s.method s.is.found) reads)) s
   unread (Threw n a t) reads s = subst (λ φ. Shows (problem_of given) n φ a (λ now. TellsSummary now × (summary_of now ≡ t))) (listed (Thrown n) (ends_listed n (slice_get_within given.program.now.methods n s.method s.is.found) reads)) s
-  unread (Stored c) reads s = (s.0, sym (flags _) ∙ s.1)
+  unread (Stored c) reads s = ⊎_elim (λ none. absurd (none (stored_listed c s.0 reads))) (λ e. (s.0, sym e ∙ s.1)) (flags (cell_number given.program.now c))
   unread (At m i a b) (is_method, is_first) r =
       let ours : HasPlace block m i = subst (λ (q : ℕ × ℕ). HasPlace block q.0 q.1) (λ t. (is_method t, is_first t)) (has_first given.program.now given.layout.now.blocks is.layout.blocks number block at) in
       let theirs : HasPlace r.block m i = subst (λ (q : ℕ × ℕ). HasPlace r.block q.0 q.1) (λ t. (r.is_method t, r.is_first t)) (has_first given.program.now given.layout.now.blocks is.layout.blocks r.number r.block r.at) in
@@ -157,7 +170,7 @@ module _ (given : Given) (is : IsGiven given) (k : Words) (state : State) (kept 
     settled = λ b block at clean. stays_settled (problem_of given) is.layout.blocks b block at (values_of k state.cells) (values_of k cells)
         (unread given is (values_of k state.cells) (values_of k cells) b block at
             (λ other. ⊎_elim (λ old. inr (ap (meaning k) old.1)) (λ new. inl (λ reads. unmarked b block at clean (subst (λ (a : CellName). ReadsCell given.layout.now a b) new.0 reads))) (each_cell other))
-            stored_same)
+            (λ m. inr (stored_same m)))
         (values_of k state.cells) (values_of k cells) raised_grows (kept.settled b block at (was_clean b clean));
   }
     where

@@ -1,6 +1,5 @@
 -- Which blocks are marked to be looked at again.
-use Rattle.std.specs.Prelude.{◌≡◌, ◌⊎◌, ℕ, ◌<◌, true, Bool, List, Contains, length}
-use Rattle.ja_ir.specs.declared.program.Parts.{Parts}
+use Rattle.std.specs.Prelude.{◌≡◌, ◌⊎◌, ℕ, ◌<◌, true, Bool, List, [], Contains, length, slice_index_or}
 use Rattle.ja_ir.specs.declared.entry.Entry.{Entry}
 use Rattle.ja_blocks.specs.declared.layout.Layout.{Layout}
 use Rattle.ja_blocks.specs.Index.{InList}
@@ -21,6 +20,15 @@ ReadsCell layout (Returned m) k = InList layout.callers m k
 ReadsCell layout (Thrown m) k = InList layout.callers m k
 ReadsCell layout (Before n) k = k ≡ n
 
--- among those of the field or bag of this number: the block reads a field that may hold what was stored there, or begins the method of an entry
-abbrev pub ReadsStored : Parts → Layout → (n k : ℕ) → Type 0
-ReadsStored p layout n k = ((f : ℕ) × InList layout.holders n f × InList layout.readers f k) ⊎ ((entry : Entry) × Contains p.entries entry × InList layout.beginners entry.method.0 k)
+-- one of these fields is read by the block
+abbrev pub ReadsOneOf : List (List ℕ) → List ℕ → ℕ → Type 0
+ReadsOneOf readers fields k = (f : ℕ) × Contains fields f × InList readers f k
+
+-- the block begins the method of one of these entries
+abbrev pub BeginsOneOf : Layout → List Entry → ℕ → Type 0
+BeginsOneOf layout entries k = (entry : Entry) × Contains entries entry × InList layout.beginners entry.method.0 k
+
+-- the layout has the block among the readers of the field or bag of this number: it reads a field that may hold what was stored there, or begins
+-- the method of an entry
+abbrev pub ReadsStored : Layout → List Entry → (n k : ℕ) → Type 0
+ReadsStored layout entries n k = ReadsOneOf layout.readers (slice_index_or layout.holders n []) k ⊎ BeginsOneOf layout entries k

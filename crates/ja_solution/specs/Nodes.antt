@@ -1,11 +1,15 @@
 -- The cells of a solver as nodes of a table, and what is kept of them.
 use Rattle.std.specs.Prelude.{◌≡◌, ◌↔◌, ◌⊎◌, ℕ, ◌<◌, ◌&&◌, nat_eq, Bool, true, false, List, [], Option, Some, None, Contains, length, replicate, slice_get, slice_index_or, if◌then◌else◌}
 use Rattle.ja_ir.specs.declared.method.Method.{Method}
+use Rattle.ja_ir.specs.Whole.{IsWhole}
 use Rattle.ja_node_core.specs.Tree.{Tree}
 use Rattle.ja_node_core.specs.declared.word.Node.{Node}
 use Rattle.ja_node_core.specs.Node.{Words, Knows}
 use Rattle.ja_bdd.specs.Meaning.{meaning}
 use Rattle.ja_facts.specs.FactTables.{cell_count}
+use Rattle.ja_facts.specs.Held.{Cell}
+use Rattle.ja_facts.specs.Told.{cell_number, IsCell}
+use Rattle.ja_facts.specs.Equations.{Stored}
 use Rattle.ja_work.specs.declared.frame.Frame.{Frame}
 use Rattle.ja_work.specs.Work.{IsMethod, IsWorkTree}
 use Rattle.ja_blocks.specs.declared.layout.Layout.{Layout}
@@ -17,7 +21,7 @@ use Rattle.ja_solution.specs.declared.cells.Cells.{Cells}
 use Rattle.ja_solution.specs.declared.cells.Counts.{Counts}
 use Rattle.ja_solution.specs.declared.given.Given.{Given}
 use Rattle.ja_solution.specs.declared.state.State.{State}
-use Rattle.ja_solution.specs.Problem.{Problem, known}
+use Rattle.ja_solution.specs.Problem.{Problem, known, Solution}
 use Rattle.ja_solution.specs.Cells.{Values}
 use Rattle.ja_solution.specs.Solved.{AreBelow}
 use Rattle.ja_solution.specs.Settled.{AreSettled}
@@ -85,8 +89,9 @@ pub record AreNothing (counts : Counts) (cells : Cells) : Type 0 where
 abbrev pub problem_of : Given → Problem
 problem_of given = record { program = given.program.now; facts = given.facts.now; frames = given.frames.now; blocks = given.layout.now.blocks }
 
--- the layout is that of the program, and each method has a frame
+-- the program is whole, the layout is that of it, and each method has a frame
 pub record IsGiven (given : Given) : Type 0 where
+  pub whole : IsWhole given.program.now
   pub layout : IsLayout given.program.now given.facts.now.graph given.facts.now.holds given.layout.now
   pub frames : (m : ℕ) (method : Method) → slice_get given.program.now.methods m ≡ Some method → (frame : Frame) × IsMethod given.program.now (known (problem_of given)) given.frames.now m method frame
 
@@ -104,6 +109,10 @@ count_of x (Before k) = length x.blocks
 -- there is such a cell
 abbrev pub IsCellName : Problem → CellName → Type 0
 IsCellName x name = place name < count_of x name
+
+-- in the least solution something tainted may have been stored into the field or bag of this number
+abbrev pub IsStored : Problem → ℕ → Type 0
+IsStored x n = (c : Cell) → IsCell x.program c → cell_number x.program c ≡ n → Solution x (Stored c)
 
 -- the cells and flags are those of the problem
 pub record AreSized (x : Problem) (state : State) : Type 0 where

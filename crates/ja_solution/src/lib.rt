@@ -9,4 +9,4 @@ mod state;
 pub use cells::{CellName, Cells, Counts};
 pub use given::Given;
 pub use law::{law_closed, law_settled, law_stays_settled};
-pub use state::{State, raise};
+pub use state::{State, first_state, raise, settle, store, warn};

@@ -1,23 +1,30 @@
-ghost use Rattle.std.specs.Prelude.{◌≡◌, ◌<◌, ℕ, IfOk, OnOk, OnErr, IsTrue, Contains, false, true, length, slice_index_or};
-ghost use Rattle.ja_node_core.specs.Node.{Knows};
+ghost use Rattle.std.specs.Prelude.{◌≡◌, ◌<◌, ℕ, IfOk, OnOk, OnErr, IsTrue, Some, Contains, false, true, length, slice_get, slice_set, slice_index_or};
+ghost use Rattle.ja_ir.specs.declared.entry.Site.{Site};
+ghost use Rattle.ja_node_core.specs.Node.{Words, Knows};
 ghost use Rattle.ja_node_table.specs.Seats.{aim_of};
 ghost use Rattle.ja_bdd.specs.Meaning.{meaning, Keeps};
 ghost use Rattle.ja_bdd.specs.Workers.{IsWorkerOf, seen};
 ghost use Rattle.ja_join.specs.Steps.{IsBelow};
 ghost use Rattle.ja_facts.specs.FactTables.{cell_count};
+ghost use Rattle.ja_facts.specs.Equations.{IsWarned};
 ghost use Rattle.ja_blocks.specs.Index.{InList};
+ghost use Rattle.ja_blocks.specs.declared.blocks.ProgramBlock.{ProgramBlock};
+ghost use Rattle.ja_solution.specs.Problem.{Solution};
+ghost use Rattle.ja_solution.specs.Settled.{IsSettled};
 ghost use Rattle.ja_solution.specs.Solved.{IsOfCell};
 ghost use Rattle.ja_solution.specs.Reads.{Grow};
-ghost use Rattle.ja_solution.specs.Nodes.{values_of, problem_of, IsGiven, IsForWork, IsCellName, IsState};
-ghost use Rattle.ja_solution.specs.Marks.{AreMarked, ReadsCell, ReadsStored};
+ghost use Rattle.ja_solution.specs.Nodes.{values_of, problem_of, IsGiven, IsForWork, IsCellName, IsStored, AreSized, IsState};
+ghost use Rattle.ja_solution.specs.Marks.{AreMarked, ReadsCell, ReadsOneOf, BeginsOneOf, ReadsStored};
 
-use crate::cells::{CellName, Cells};
+use crate::cells::{CellName, Cells, Counts};
 use crate::given::Given;
-use ja_base::Numbers;
+use ja_base::{Memory, Numbers};
 use ja_bdd::Worker;
 use ja_blocks::Layout;
+use ja_ir::Entry;
 use ja_node_core::Aim;
 use ja_node_table::{Full, Node, NodeTable};
+use std::alloc::Global;
 
 /// Cells, and which blocks are to be looked at again.
 #[derive(Drop)]
@@ -66,6 +73,38 @@ fn mark_readers(dirty: &mut Vec<bool>, layout: &Layout, name: CellName)
     }
 }
 
+/// Marks the readers of these fields.
+fn mark_fields(dirty: &mut Vec<bool>, readers: &[Numbers], fields: &[u64])
+    ensures { AreMarked dirty.old.items dirty.new.items (ReadsOneOf readers.now fields.now) }
+{
+    for field in fields {
+        mark_list(dirty, readers, *field);
+    }
+}
+
+/// Marks the blocks that begin the methods of these entries.
+fn mark_entries(dirty: &mut Vec<bool>, layout: &Layout, entries: &[Entry])
+    ensures { AreMarked dirty.old.items dirty.new.items (BeginsOneOf layout.now entries.now) }
+{
+    for entry in entries {
+        mark_list(
+            dirty,
+            layout.beginners.as_slice(),
+            u64::from(entry.method.0),
+        );
+    }
+}
+
+/// Marks the readers of the field or bag of a number.
+fn mark_stored(dirty: &mut Vec<bool>, layout: &Layout, entries: &[Entry], number: u64)
+    requires { number < length layout.now.holders }
+    ensures { AreMarked dirty.old.items dirty.new.items (ReadsStored layout.now entries.now number) }
+{
+    let fields = layout.holders.at(number);
+    mark_fields(dirty, layout.readers.as_slice(), fields.as_slice());
+    mark_entries(dirty, layout, entries);
+}
+
 /// Adds to a cell what a known node says. Where the cell then says more, its readers are marked.
 ///
 /// The answer says whether it does. `Full` leaves the cells as they are.
@@ -103,4 +142,69 @@ pub fn raise<A: Aim>(
     state.cells.set(name, made);
     mark_readers(&mut state.dirty, given.layout, name);
     Ok(true)
+}
+
+/// Says that something tainted may have been stored into the field or bag of a number, and marks its readers
+/// where this was not said.
+pub fn store(state: &mut State, given: &Given, number: u32) -> bool
+    requires given { IsGiven given.now }
+    requires number { number < cell_count given.now.program.now }
+    requires cell { IsStored (problem_of given.now) number }
+    requires sized { AreSized (problem_of given.now) state.old }
+    ensures state { (k : Words) → IsState (problem_of given.now) k state.old → IsState (problem_of given.now) k state.new }
+    ensures grow { (k : Words) → Grow (values_of k state.old.cells) (values_of k state.new.cells) }
+    ensures said { slice_index_or state.new.cells.stored.items number false ≡ true }
+    ensures same { result ≡ false → state.new ≡ state.old }
+{
+    if state.cells.stored[number as usize] {
+        return false;
+    }
+    state.cells.stored[number as usize] = true;
+    mark_stored(
+        &mut state.dirty,
+        given.layout,
+        given.program.entries().as_slice(),
+        u64::from(number),
+    );
+    true
+}
+
+/// Says that a site is warned.
+pub fn warn(state: &mut State, given: &Given, site: u32)
+    requires given { IsGiven given.now }
+    requires site { site < length given.now.program.now.sites }
+    requires warned { (s : Site) → slice_get given.now.program.now.sites site ≡ Some s → IsWarned given.now.program.now (Solution (problem_of given.now)) s }
+    requires sized { AreSized (problem_of given.now) state.old }
+    ensures state { (k : Words) → IsState (problem_of given.now) k state.old → IsState (problem_of given.now) k state.new }
+    ensures grow { (k : Words) → Grow (values_of k state.old.cells) (values_of k state.new.cells) }
+    ensures said { slice_index_or state.new.cells.warned.items site false ≡ true }
+{
+    state.cells.warned[site as usize] = true;
+}
+
+/// Says that a block, whose rules hold, need not be looked at again.
+pub fn settle(state: &mut State, given: &Given, block: u32)
+    requires sized { AreSized (problem_of given.now) state.old }
+    requires block { block < length given.now.layout.now.blocks }
+    ensures state { (k : Words) → IsState (problem_of given.now) k state.old → ((b : ProgramBlock) → slice_get given.now.layout.now.blocks block ≡ Some b → IsSettled (problem_of given.now) b (values_of k state.old.cells) (values_of k state.old.cells)) → IsState (problem_of given.now) k state.new }
+    ensures cells { state.new.cells ≡ state.old.cells }
+    ensures dirty { state.new.dirty.items ≡ slice_set state.old.dirty.items block false }
+{
+    state.dirty[block as usize] = false;
+}
+
+/// A state in which nothing is said, and each block is to be looked at.
+pub fn first_state(alloc: Global, given: &Given) -> Result<State, Memory>
+    requires { IsGiven given.now }
+    ensures { IfOk result (λ state. (k : Words) → IsState (problem_of given.now) k state) }
+{
+    let counts = Counts {
+        methods: given.program.methods().len() as usize,
+        blocks: given.layout.blocks.len() as usize,
+        stored: (given.program.fields().len() + given.program.classes().len() + 4) as usize,
+        sites: given.program.sites().len() as usize,
+    };
+    let cells = Cells::new(alloc, counts)?;
+    let dirty = Vec::from_elem(alloc, true, counts.blocks)?;
+    Ok(State { cells, dirty })
 }
