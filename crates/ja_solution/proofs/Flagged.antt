@@ -1,5 +1,5 @@
 -- A flag that is set, a block that is settled, and the first state.
-use Rattle.std.proofs.Common.{◌≡◌, ◌⊎◌, ℕ, ◌<◌, ◌≤◌, Bool, true, false, List, [], length, get_or, set, refl, sym, ap, ◌∙◌, subst, inl, inr, ⊎_elim, arith}
+use Rattle.std.proofs.Common.{◌≡◌, ◌⊎◌, ℕ, zero, suc, ◌<◌, ◌≤◌, Bool, true, false, List, [], length, get_or, set, refl, sym, ap, ◌∙◌, subst, inl, inr, ⊎_elim, arith}
 use Rattle.std.specs.declared.alloc.Global.{Global}
 use Rattle.std.specs.Prelude.{Vec, Some, replicate, slice_get, slice_index_or, slice_set}
 use Rattle.std.proofs.lemmas.List.{get_or-set_other, get_or-set_same, length-set, get_or-replicate, length-replicate}
@@ -9,7 +9,11 @@ use mathlib.Core.Logic.{dite}
 use Rattle.ja_ir.specs.declared.entry.Site.{Site}
 use Rattle.ja_node_core.specs.Node.{Words, Knows}
 use Rattle.ja_bdd.specs.Functions.{Function, IsFree}
-use Rattle.ja_bdd.specs.Meaning.{meaning}
+use Rattle.ja_bdd.specs.Meaning.{meaning, value_within}
+use Rattle.ja_base.specs.Limit.{max_variables}
+use Rattle.ja_bdd.proofs.Sound.{knows_constant}
+use Rattle.ja_work.specs.Work.{of_context, of_return, of_throw, before}
+use Rattle.ja_facts.specs.FactTables.{cell_count}
 use Rattle.ja_facts.specs.Held.{Cell}
 use Rattle.ja_facts.specs.Told.{cell_number, IsCell}
 use Rattle.ja_facts.specs.Equations.{Stored, IsWarned}
@@ -17,13 +21,14 @@ use Rattle.ja_blocks.specs.declared.blocks.ProgramBlock.{ProgramBlock}
 use Rattle.ja_solution.specs.declared.cells.CellName.{CellName}
 use Rattle.ja_solution.specs.declared.cells.CellName.TheVariants.{Called, Returned, Thrown, Before}
 use Rattle.ja_solution.specs.declared.cells.Cells.{Cells}
+use Rattle.ja_solution.specs.declared.cells.Counts.{Counts}
 use Rattle.ja_solution.specs.declared.given.Given.{Given}
 use Rattle.ja_solution.specs.declared.state.State.{State}
 use Rattle.ja_solution.specs.Problem.{Problem, Solution}
 use Rattle.ja_solution.specs.Solved.{IsPartOf, IsOfCell, AreBelow}
 use Rattle.ja_solution.specs.Settled.{IsSettled, AreSettled}
 use Rattle.ja_solution.specs.Reads.{ReadsNoMore, Grow}
-use Rattle.ja_solution.specs.Nodes.{row, number_at, values_of, problem_of, IsGiven, IsStored, AreSized, AreNothing, IsState, is_dirty}
+use Rattle.ja_solution.specs.Nodes.{row, count_of, number_at, values_of, problem_of, IsGiven, IsStored, AreSized, AreNothing, IsState, is_dirty}
 use Rattle.ja_solution.specs.Marks.{AreMarked, ReadsCell, ReadsStored}
 use Rattle.ja_solution.proofs.Transfer.{stays_settled}
 use Rattle.ja_solution.proofs.Raised.{unread}
@@ -141,9 +146,65 @@ settled_state x k state block dirty set_is kept settled = record {
       (λ ne. kept.settled b own at (sym (ap (λ (bits : List Bool). slice_index_or bits b false) set_is ∙ get_or-set_other state.dirty.items block b false false ne) ∙ clean));
 }
 
+-- the constant false
+false_within : (levels : ℕ) (k : Words) → value_within levels k 0 ≡ (λ a. false)
+unfolding value_within
+false_within zero k = refl
+false_within (suc levels) k = refl
+
+false_means : (k : Words) → meaning k 0 ≡ (λ a. false)
+unfolding meaning
+false_means k = false_within max_variables k
+
 -- nothing is said
 nothing_free : (u : ℕ) → IsFree u (λ a. false)
 nothing_free u b a = refl
 
 nothing_part : (x : Problem) (m : ℕ) (saying : _) → IsPartOf x m saying (λ a. false)
 nothing_part x m saying = record { set = λ method frame is. record { facts = λ a e. absurd (let f : false ≡ true = e in cc f); own = λ v _. nothing_free v }; low = λ a b same. refl }
+
+nothing_of : (x : Problem) (name : CellName) → IsOfCell x name (λ a. false)
+nothing_of x (Called m) = (nothing_part x m of_context, λ u e. nothing_free u)
+nothing_of x (Returned m) = nothing_part x m of_return
+nothing_of x (Thrown m) = nothing_part x m of_throw
+nothing_of x (Before k) = λ block at. nothing_part x block.method.0 (before block.first)
+
+none_set : (count n : ℕ) → slice_index_or (replicate count false) n false ≡ true → ⊥
+none_set count n e = let f : false ≡ true = sym (law count n) ∙ e in cc f
+  where
+    law : (count n : ℕ) → slice_index_or (replicate count false) n false ≡ false
+    law zero n = refl
+    law (suc count) zero = refl
+    law (suc count) (suc n) = law count n
+
+-- the first state
+pub first : (given : Given) → IsGiven given → (k : Words) (cells : Cells) (dirty : Vec Bool Global) (counts : Counts) → AreNothing counts cells
+    → counts.methods ≡ length given.program.now.methods → counts.blocks ≡ length given.layout.now.blocks → counts.stored ≡ cell_count given.program.now → counts.sites ≡ length given.program.now.sites
+    → dirty.items ≡ replicate counts.blocks true → IsState (problem_of given) k (record { cells = cells; dirty = dirty })
+first given is k cells dirty counts none methods blocks stored sites marked = record {
+  sized = record {
+    rows = sizes;
+    stored = ap (λ (bits : List Bool). length bits) none.stored ∙ length-replicate counts.stored false ∙ stored;
+    warned = ap (λ (bits : List Bool). length bits) none.warned ∙ length-replicate counts.sites false ∙ sites;
+    dirty = ap (λ (bits : List Bool). length bits) marked ∙ length-replicate counts.blocks true ∙ blocks;
+  };
+  known = λ name. subst (Knows k) (sym (none.at name)) (knows_constant k false);
+  below = record {
+    cells = λ name. subst (IsOfCell (problem_of given) name) (sym (ap (meaning k) (none.at name) ∙ false_means k)) (nothing_of (problem_of given) name);
+    stored = λ c is_cell e. absurd (none_set counts.stored (cell_number given.program.now c) (sym (ap (λ (bits : List Bool). slice_index_or bits (cell_number given.program.now c) false) none.stored) ∙ e));
+    warned = λ s site found e. absurd (none_set counts.sites s (sym (ap (λ (bits : List Bool). slice_index_or bits s false) none.warned) ∙ e));
+  };
+  settled = λ b block at clean. absurd (all_marked b block at clean);
+}
+  where
+    sizes : (name : CellName) → length (row cells name) ≡ count_of (problem_of given) name
+    sizes (Called m) = none.called ∙ methods
+    sizes (Returned m) = none.returned ∙ methods
+    sizes (Thrown m) = none.thrown ∙ methods
+    sizes (Before m) = none.before ∙ blocks
+
+    all_marked : (b : ℕ) (block : ProgramBlock) → slice_get given.layout.now.blocks b ≡ Some block → is_dirty dirty.items b ≡ false → ⊥
+    all_marked b block at clean =
+        let lt = slice_get_within given.layout.now.blocks b block at in
+        let f : true ≡ false = sym (ap (λ (bits : List Bool). slice_index_or bits b false) marked ∙ get_or-replicate counts.blocks b true false (omega (arith, lt, blocks))) ∙ clean in
+        cc f
