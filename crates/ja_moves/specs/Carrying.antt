@@ -1,5 +1,5 @@
 -- How pairs of names before a step become pairs of names after it.
-use Rattle.std.specs.Prelude.{◌≡◌, ◌⊎◌, ℕ, ◌<◌, ◌≤◌, Bool, List, [], Some, length, slice_get, slice_index_or}
+use Rattle.std.specs.Prelude.{◌≡◌, ◌⊎◌, ℕ, ◌<◌, ◌≤◌, Bool, List, Some, slice_get}
 use Rattle.ja_sets.specs.Sets.{Has, HasPair}
 use Rattle.ja_moves.specs.declared.steps.Move.{Move}
 
@@ -37,4 +37,4 @@ pub record IsGathered (kept : List Bool) (whole : List (List Bool)) (from to : �
   pub above : from ≤ a
   pub below : a < to
   pub pair : HasPair whole a b
-  pub kept : Has kept b
+  pub stays : Has kept b

@@ -10,6 +10,7 @@ pub fn gather(whole: &Matrix, count: u32, from: u32, to: u32, kept: &Matrix, row
     requires whole { IsTable count count whole.now }
     requires kept { IsTable 1 count kept.now }
     requires row { IsTable 1 count row.old }
+    requires order { from ≤ to }
     requires range { to ≤ count }
     ensures gains { Gains row.old row.new (λ c d. (c ≡ 0) × IsGathered (slice_index_or kept.now 0 []) whole.now from to d) }
     ensures shape { IsTable 1 count row.new }

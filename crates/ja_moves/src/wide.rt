@@ -1,23 +1,21 @@
 ghost use Rattle.std.specs.Prelude.{◌≡◌, ◌<◌, [], slice_index_or};
+ghost use Rattle.ja_sets.specs.Sets.{Has};
 ghost use Rattle.ja_matrix.specs.Matrices.{IsTable, Gains};
 ghost use Rattle.ja_moves.specs.Carrying.{IsWidened};
 
 use ja_matrix::Matrix;
 
-// Makes a name that is affected meet what is met, and a name that is met what is affected.
-fn widen_row(whole: &mut Matrix, count: u32, affected: &Matrix, met: &Matrix, a: u32)
+// Joins a row with the one row of a table where another one has the name of the row.
+fn join_if(whole: &mut Matrix, count: u32, a: u32, test: &Matrix, other: &Matrix)
     requires whole { IsTable count count whole.old }
-    requires affected { IsTable 1 count affected.now }
-    requires met { IsTable 1 count met.now }
+    requires test { IsTable 1 count test.now }
+    requires other { IsTable 1 count other.now }
     requires name { a < count }
-    ensures gains { Gains whole.old whole.new (λ c d. (c ≡ a) × IsWidened (slice_index_or affected.now 0 []) (slice_index_or met.now 0 []) c d) }
+    ensures gains { Gains whole.old whole.new (λ c d. (c ≡ a) × Has (slice_index_or test.now 0 []) a × Has (slice_index_or other.now 0 []) d) }
     ensures shape { IsTable count count whole.new }
 {
-    if affected.has(0, a) {
-        whole.join_row(a, met, 0);
-    }
-    if met.has(0, a) {
-        whole.join_row(a, affected, 0);
+    if test.has(0, a) {
+        whole.join_row(a, other, 0);
     }
 }
 
@@ -30,6 +28,7 @@ pub fn widen(whole: &mut Matrix, count: u32, affected: &Matrix, met: &Matrix)
     ensures shape { IsTable count count whole.new }
 {
     for a in 0..count {
-        widen_row(whole, count, affected, met, a);
+        join_if(whole, count, a, affected, met);
+        join_if(whole, count, a, met, affected);
     }
 }
