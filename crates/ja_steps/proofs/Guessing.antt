@@ -17,6 +17,7 @@ use Rattle.ja_work.specs.Clauses.{value, value_if, bound, fits_as, fits, AllFit}
 use Rattle.ja_work.specs.Frames.{number, size, spot_at, variable, is_inside, read, KeepsOutside}
 use Rattle.ja_work.proofs.Framing.{read_outside}
 use Rattle.ja_join.specs.declared.rule.Rule.{Rule}
+use Rattle.ja_join.specs.Moves.{allows}
 use Rattle.ja_join.specs.Steps.{IsStill, Leads}
 use Rattle.ja_steps.specs.declared.parts.Part.{Part}
 use Rattle.ja_steps.specs.declared.make.Range.{Range}
@@ -74,16 +75,16 @@ code_guess (x ∷ sources) b q e = by_test (nat_eq x q) refl (code_guess sources
 
 code_below : (sources : List ℕ) (b : ℕ → Bool) → code sources b < 2 ^ length sources
 code_below [] b = omega arith
-code_below (x ∷ sources) b = by_bit (b x)
+code_below (x ∷ sources) b = by_bit (b x) (code_below sources b)
   where
     by_bit : (c : Bool) → code sources b < 2 ^ length sources → cond c 1 0 + 2 * code sources b < 2 ^ suc (length sources)
     by_bit true lt = let e = pow-succ' 2 (length sources) in omega (arith, lt, e)
     by_bit false lt = let e = pow-succ' 2 (length sources) in omega (arith, lt, e)
 
-module _ (frame : Frame) (clauses : Spot → Clause) (list : List Clause) (sources : List ℕ) (range : Range)
+module _ (frame : Frame) (clauses : Spot → Clause) (list : List Clause) (sources : List ℕ) (range : Range) (cases : ℕ)
   (are : AreClauses frame clauses list) (listed : AreListed frame list sources) (ranged : HaveRange range list) where
 
-  abbrev parts : ℕ → Part
+  abbrev pub parts : ℕ → Part
   parts = parts_of frame range list
 
   placed : (j : ℕ) → (parts j).place ≡ j
@@ -99,19 +100,19 @@ module _ (frame : Frame) (clauses : Spot → Clause) (list : List Clause) (sourc
   part_at j lt = ap (part_if frame range j) (clause_there j lt)
 
   module _ (before after : Variables) where
-    abbrev B : Assignment
+    abbrev pub B : Assignment
     B = read frame 1 before
 
-    abbrev A : Assignment
+    abbrev pub A : Assignment
     A = read frame 1 after
 
-    abbrev at : ℕ → Bool
+    abbrev pub at : ℕ → Bool
     at j = before (4 * j + 1)
 
     -- a case says of the listed places what was true, and whether some counted value was
-    record Guesses (case : ℕ) : Type 0 where
-      places : (q : ℕ) → is_listed sources q ≡ true → q < size frame → guessed sources (case / 2) q ≡ at q
-      any : is_any case ≡ any_stacked B range.first range.count
+    pub record Guesses (case : ℕ) : Type 0 where
+      pub places : (q : ℕ) → is_listed sources q ≡ true → q < size frame → guessed sources (case / 2) q ≡ at q
+      pub any : is_any case ≡ any_stacked B range.first range.count
 
     -- some counted place was true where some counted value was
     counted_slot : (s : Spot) → is_counted range.first range.count s ≡ true → value B s ≡ true → any_stacked B range.first range.count ≡ true
@@ -129,7 +130,7 @@ module _ (frame : Frame) (clauses : Spot → Clause) (list : List Clause) (sourc
     counted_slot Dirt e t = absurd (cc e)
     counted_slot Exc e t = absurd (cc e)
 
-    counted_stacked : some_counted sources (2 * 2 ^ length sources) parts placed before after (size frame) ≡ any_stacked B range.first range.count
+    counted_stacked : some_counted sources cases parts placed before after (size frame) ≡ any_stacked B range.first range.count
     counted_stacked = one_truth (any_below (λ j. (parts j).counted && at j) (size frame)) (any_stacked B range.first range.count)
         (λ e.
           let found = some_below (λ j. (parts j).counted && at j) (size frame) e in
@@ -189,8 +190,100 @@ module _ (frame : Frame) (clauses : Spot → Clause) (list : List Clause) (sourc
         ∙ ap (λ x. clause.always || (value_if B clause.one || x)) (range_is case clause guess (ranged j clause there))
 
     -- where the clause of a place holds, and where it is allowed
-    fits_is : (case j : ℕ) → Guesses case → (lt : j < size frame) → fits_as (parts j).exact (bound_in sources (parts j) case (at j)) (after (4 * j + 1)) ≡ fits (clauses (spot_at frame j)) B (value A (spot_at frame j))
+    pub fits_is : (case j : ℕ) → Guesses case → (lt : j < size frame) → fits_as (parts j).exact (bound_in sources (parts j) case (at j)) (after (4 * j + 1)) ≡ fits (clauses (spot_at frame j)) B (value A (spot_at frame j))
     fits_is case j guess lt =
         ap (λ x. fits_as (parts j).exact x (after (4 * j + 1))) (bound_is case j guess lt)
         ∙ ap (λ (p : Part). fits_as p.exact (bound (clauses (spot_at frame j)) B) (after (4 * j + 1))) (part_at j lt)
         ∙ ap (fits_as (clauses (spot_at frame j)).exact (bound (clauses (spot_at frame j)) B)) (sym (value_at frame after j lt))
+
+    all_at : (case n j : ℕ) → all_allowed sources cases parts placed before after case n ≡ true → j < n → allows_in sources (parts j) case (at j) (after (4 * j + 1)) ≡ true
+    all_at case zero j e lt = absurd (omega (arith, lt))
+    all_at case (suc n) j e lt =
+        let both = and_parts (all_allowed sources cases parts placed before after case n) (allows_in sources (parts n) case (at n) (after (4 * n + 1))) e in
+        dite (ℕ_discrete j n) (λ same. subst (λ x. allows_in sources (parts x) case (at x) (after (4 * x + 1)) ≡ true) (sym same) both.1) (λ ne. all_at case n j both.0 (omega (arith, lt, ne)))
+
+    all_from : (case n : ℕ) → ((j : ℕ) → j < n → allows_in sources (parts j) case (at j) (after (4 * j + 1)) ≡ true) → all_allowed sources cases parts placed before after case n ≡ true
+    all_from case zero each = refl
+    all_from case (suc n) each = and_from (all_allowed sources cases parts placed before after case n) (allows_in sources (parts n) case (at n) (after (4 * n + 1))) (all_from case n (λ j lt. each j (omega (arith, lt)))) (each n (omega arith))
+
+    -- what a place that agrees with a case says
+    listed_agrees : (case q : ℕ) → is_listed sources q ≡ true → agrees sources (parts q) case (at q) ≡ true → guessed sources (case / 2) q ≡ at q
+    listed_agrees case q known e =
+        let first = (and_parts (if is_listed sources (parts q).place then is_same (at q) (guessed sources (case / 2) (parts q).place) else true) (not ((parts q).counted && at q) || is_any case) e).0 in
+        let here : (if is_listed sources q then is_same (at q) (guessed sources (case / 2) q) else true) ≡ true = subst (λ x. (if is_listed sources x then is_same (at q) (guessed sources (case / 2) x) else true) ≡ true) (placed q) first in
+        same_is (at q) (guessed sources (case / 2) q) (sym (ap (λ c. if c then is_same (at q) (guessed sources (case / 2) q) else true) known) ∙ here)
+
+    agrees_listed : (case q : ℕ) → (is_listed sources q ≡ true → guessed sources (case / 2) q ≡ at q) → ((parts q).counted && at q ≡ true → is_any case ≡ true) → agrees sources (parts q) case (at q) ≡ true
+    agrees_listed case q guess any = and_from (if is_listed sources (parts q).place then is_same (at q) (guessed sources (case / 2) (parts q).place) else true) (not ((parts q).counted && at q) || is_any case)
+        (subst (λ x. (if is_listed sources x then is_same (at q) (guessed sources (case / 2) x) else true) ≡ true) (sym (placed q)) (by_test (is_listed sources q) refl))
+        (not_counted ((parts q).counted && at q) (is_any case) any)
+      where
+        by_test : (c : Bool) → is_listed sources q ≡ c → (if c then is_same (at q) (guessed sources (case / 2) q) else true) ≡ true
+        by_test true e = is_same_own (at q) (guessed sources (case / 2) q) (guess e)
+        by_test false e = refl
+
+    module _ (rule : Rule) (made : IsMadeOf frame list sources range cases rule) where
+      -- the rule leads where the clauses do
+      pub leads_led : KeepsOutside frame clauses → Leads rule before after → IsLed frame clauses before after
+      leads_led outside leads = record { fits = λ s. by_place s (is_inside frame s) refl; others = others }
+        where
+          left : IsLeft sources cases parts placed before after (size frame) rule.moves.items rule.start rule.accepted made.moves made.waiting made.seen made.accepted_waiting made.accepted_seen (λ j lt still. leads.others (4 * j + 1) still)
+          left = left_case sources cases parts placed before after (size frame) rule.moves.items rule.start rule.accepted made.moves made.waiting made.seen made.accepted_waiting made.accepted_seen (λ j lt still. leads.others (4 * j + 1) still) leads.allowed
+
+          parts_at : (j : ℕ) → j < size frame → (agrees sources (parts j) left.case (at j) ≡ true) × (fits_as (parts j).exact (bound_in sources (parts j) left.case (at j)) (after (4 * j + 1)) ≡ true)
+          parts_at j lt = and_parts (agrees sources (parts j) left.case (at j)) (fits_as (parts j).exact (bound_in sources (parts j) left.case (at j)) (after (4 * j + 1))) (all_at left.case (size frame) j left.all lt)
+
+          guess : Guesses left.case
+          guess = record { places = λ q known lt. listed_agrees left.case q known (parts_at q lt).0; any = left.any ∙ counted_stacked }
+
+          by_place : (s : Spot) (c : Bool) → is_inside frame s ≡ c → fits (clauses s) B (value A s) ≡ true
+          by_place s true here =
+              let j = slice_index frame.places (number frame s) in
+              let lt = place_within frame s here in
+              subst (λ x. fits (clauses x) B (value A x) ≡ true) (spot_back frame s here) (sym (fits_is left.case j guess lt) ∙ (parts_at j lt).1)
+          by_place s false out = ap (fits (clauses s) B) (read_outside frame 1 after s out) ∙ outside s before out
+
+          others : (v : ℕ) → is_present frame v ≡ false → before v ≡ after v
+          others v out = dite (ℕ_discrete (v % 4) 1)
+              (λ e. let apart = ltb-false (v / 4) (size frame) (sym (ap (λ c. c && nat_lt (v / 4) (size frame)) (eq-eqb (v % 4) 1 e)) ∙ out) in
+                leads.others v (still_behind sources cases parts placed (size frame) rule.moves.items v made.moves (omega (arith, apart))))
+              (λ ne. leads.others v (still_other sources cases parts placed (size frame) rule.moves.items v made.moves ne))
+
+      pub led_leads : cases ≤ 32 → 2 * 2 ^ length sources ≤ cases → IsLed frame clauses before after → Leads rule before after
+      led_leads few enough led = by_case (cond (any_stacked B range.first range.count) 1 0 + 2 * code sources at)
+          (record {
+            places = λ q known lt. ap (λ n. guessed sources n q) (code_bit (any_stacked B range.first range.count) (code sources at)).1 ∙ code_guess sources at q known;
+            any = (code_bit (any_stacked B range.first range.count) (code sources at)).0;
+          })
+          (below (any_stacked B range.first range.count))
+        where
+          below : (c : Bool) → cond c 1 0 + 2 * code sources at < cases
+          below true = let lt = code_below sources at in omega (arith, lt, enough)
+          below false = let lt = code_below sources at in omega (arith, lt, enough)
+
+          by_case : (case : ℕ) → Guesses case → case < cases → Leads rule before after
+          by_case case guess lt = record { allowed = allowed; others = others }
+            where
+              each : (j : ℕ) → j < size frame → allows_in sources (parts j) case (at j) (after (4 * j + 1)) ≡ true
+              each j within = and_from (agrees sources (parts j) case (at j)) (fits_as (parts j).exact (bound_in sources (parts j) case (at j)) (after (4 * j + 1)))
+                  (agrees_listed case j (λ known. guess.places j known within)
+                    (λ hit. guess.any ∙ sym counted_stacked ∙ any_from (λ k. (parts k).counted && at k) (size frame) j within hit))
+                  (fits_is case j guess within ∙ led.fits (spot_at frame j))
+
+              stay : (j : ℕ) → j < size frame → IsStill rule.moves.items (4 * j + 1) → before (4 * j + 1) ≡ after (4 * j + 1)
+              stay j within still = stays_kept sources (parts j) case (at j) (after (4 * j + 1)) (still_kept sources cases parts placed (size frame) rule.moves.items j made.moves within still) (each j within)
+
+              allowed : allows rule.accepted rule.moves.items rule.start before after ≡ true
+              allowed = case_left sources cases parts placed before after (size frame) rule.moves.items rule.start rule.accepted made.moves made.waiting made.seen made.accepted_waiting made.accepted_seen stay few
+                  (record { case = case; within = lt-ltb case cases lt; all = all_from case (size frame) each; any = guess.any ∙ sym counted_stacked })
+
+              others : (v : ℕ) → IsStill rule.moves.items v → before v ≡ after v
+              others v still = by_test (is_present frame v) refl
+                where
+                  by_test : (c : Bool) → is_present frame v ≡ c → before v ≡ after v
+                  by_test false out = led.others v out
+                  by_test true here =
+                      let both = and_parts (nat_eq (v % 4) 1) (nat_lt (v / 4) (size frame)) here in
+                      let one = eqb-true (v % 4) 1 both.0 in
+                      let is : 4 * (v / 4) + 1 ≡ v = omega (arith, one) in
+                      subst (λ x. before x ≡ after x) is (stay (v / 4) (ltb-true (v / 4) (size frame) both.1) (subst (IsStill rule.moves.items) (sym is) still))

@@ -3,3 +3,4 @@ pub mod Moving
 pub mod Leaving
 pub mod Placing
 pub mod Guessing
+pub mod Ending

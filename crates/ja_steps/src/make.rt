@@ -1,4 +1,4 @@
-ghost use Rattle.std.specs.Prelude.{◌≡◌, ◌≤◌, IfOk, IfSome, IsTrue, length};
+ghost use Rattle.std.specs.Prelude.{◌≡◌, ◌*◌, ◌^◌, ◌≤◌, IfOk, IfSome, IsTrue, length};
 ghost use Rattle.ja_work.specs.Frames as frames;
 ghost use Rattle.ja_steps.specs.Ends.{FindsFor, HasRoomFor, clauses_of};
 ghost use Rattle.ja_steps.specs.Led.{IsRuleOf};
@@ -110,6 +110,22 @@ fn rule_by(
     Ok(rule)
 }
 
+/// How many cases there are for so many places, at most four: what is true at each, and whether some counted
+/// value is.
+fn case_count(places: usize) -> u32
+    requires { places ≤ 4 }
+    ensures count { result ≡ 2 * 2 ^ places }
+    ensures few { result ≤ 32 }
+{
+    match places {
+        0 => 2,
+        1 => 4,
+        2 => 8,
+        3 => 16,
+        _ => 32,
+    }
+}
+
 /// The rule by which a set of facts is stepped over an end. There is none where clauses look at more than four
 /// other spots or at two ranges of values on the stack.
 pub fn rule_of(alloc: Global, frame: &Frame, end: &End) -> Result<Option<Rule>, Memory>
@@ -123,7 +139,7 @@ pub fn rule_of(alloc: Global, frame: &Frame, end: &End) -> Result<Option<Rule>, 
     if sources.len() > 4 || !have_range(range, &clauses) {
         return Ok(None);
     }
-    let cases = 2 << sources.len();
+    let cases = case_count(sources.len());
     let rule = rule_by(alloc, frame, &clauses, &sources, range, cases)?;
     Ok(Some(rule))
 }
