@@ -17,12 +17,13 @@ use Rattle.ja_work.specs.Clauses.{value, value_if, bound, fits_as, fits, AllFit}
 use Rattle.ja_work.specs.Frames.{number, size, spot_at, variable, is_inside, read, KeepsOutside}
 use Rattle.ja_work.proofs.Framing.{read_outside}
 use Rattle.ja_join.specs.declared.rule.Rule.{Rule}
+use Rattle.ja_join.specs.declared.rule.Move.{Move}
 use Rattle.ja_join.specs.Moves.{allows}
 use Rattle.ja_join.specs.Steps.{IsStill, Leads}
 use Rattle.ja_steps.specs.declared.parts.Part.{Part}
 use Rattle.ja_steps.specs.declared.make.Range.{Range}
 use Rattle.ja_steps.specs.Led.{is_present, IsLed}
-use Rattle.ja_steps.specs.Parts.{place_if, is_counted, part_of, is_same, is_listed, guessed, is_any, one_value, bound_in, agrees, allows_in, AreClauses, AreListed, HasRange, HaveRange, part_if, parts_of, IsMadeOf}
+use Rattle.ja_steps.specs.Parts.{place_if, is_counted, part_of, is_same, is_listed, guessed, is_any, one_value, bound_in, agrees, allows_in, AreClauses, AreListed, HasRange, HaveRange, part_if, parts_of, AreMoves, IsMadeOf}
 use Rattle.ja_steps.proofs.Moving.{part_place}
 use Rattle.ja_steps.proofs.Placing.{inside_at, place_at, place_within, spot_back, read_inside, value_at}
 use Rattle.ja_steps.proofs.Leaving.{some_below, none_below, still_behind, still_other, still_kept, stays_kept, all_allowed, some_counted, IsLeft, left_case, case_left}
@@ -80,6 +81,12 @@ code_below (x ∷ sources) b = by_bit (b x) (code_below sources b)
     by_bit : (c : Bool) → code sources b < 2 ^ length sources → cond c 1 0 + 2 * code sources b < 2 ^ suc (length sources)
     by_bit true lt = let e = pow-succ' 2 (length sources) in omega (arith, lt, e)
     by_bit false lt = let e = pow-succ' 2 (length sources) in omega (arith, lt, e)
+
+-- moves of the places of a frame are for its variables at present alone
+pub moves_still : (sources : List ℕ) (cases : ℕ) (parts : ℕ → Part) → ((j : ℕ) → (parts j).place ≡ j) → (n : ℕ) (moves : List Move) (v : ℕ) → AreMoves sources cases parts n moves → (nat_eq (v % 4) 1 && nat_lt (v / 4) n) ≡ false → IsStill moves v
+moves_still sources cases parts placed n moves v are out = dite (ℕ_discrete (v % 4) 1)
+    (λ e. let apart = ltb-false (v / 4) n (sym (ap (λ c. c && nat_lt (v / 4) n) (eq-eqb (v % 4) 1 e)) ∙ out) in still_behind sources cases parts placed n moves v are (omega (arith, apart)))
+    (λ ne. still_other sources cases parts placed n moves v are ne)
 
 module _ (frame : Frame) (clauses : Spot → Clause) (list : List Clause) (sources : List ℕ) (range : Range) (cases : ℕ)
   (are : AreClauses frame clauses list) (listed : AreListed frame list sources) (ranged : HaveRange range list) where
@@ -244,10 +251,7 @@ module _ (frame : Frame) (clauses : Spot → Clause) (list : List Clause) (sourc
           by_place s false out = ap (fits (clauses s) B) (read_outside frame 1 after s out) ∙ outside s before out
 
           others : (v : ℕ) → is_present frame v ≡ false → before v ≡ after v
-          others v out = dite (ℕ_discrete (v % 4) 1)
-              (λ e. let apart = ltb-false (v / 4) (size frame) (sym (ap (λ c. c && nat_lt (v / 4) (size frame)) (eq-eqb (v % 4) 1 e)) ∙ out) in
-                leads.others v (still_behind sources cases parts placed (size frame) rule.moves.items v made.moves (omega (arith, apart))))
-              (λ ne. leads.others v (still_other sources cases parts placed (size frame) rule.moves.items v made.moves ne))
+          others v out = leads.others v (moves_still sources cases parts placed (size frame) rule.moves.items v made.moves out)
 
       pub led_leads : cases ≤ 32 → 2 * 2 ^ length sources ≤ cases → IsLed frame clauses before after → Leads rule before after
       led_leads few enough led = by_case (cond (any_stacked B range.first range.count) 1 0 + 2 * code sources at)

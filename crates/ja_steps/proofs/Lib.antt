@@ -4,3 +4,5 @@ pub mod Leaving
 pub mod Placing
 pub mod Guessing
 pub mod Ending
+pub mod Setting
+pub mod Unread

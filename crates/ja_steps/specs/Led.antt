@@ -2,8 +2,9 @@
 use Rattle.std.specs.Prelude.{◌≡◌, ◌↔◌, ℕ, ◌/◌, ◌%◌, ◌&&◌, nat_lt, nat_eq, Bool, true, false}
 use Rattle.ja_node_core.specs.Tree.{Assignment as Variables}
 use Rattle.ja_bdd.specs.Functions.{Function}
+use Rattle.ja_facts.specs.Formulas.{Assignment}
 use Rattle.ja_join.specs.declared.rule.Rule.{Rule}
-use Rattle.ja_join.specs.Steps.{Leads}
+use Rattle.ja_join.specs.Steps.{Leads, IsStill}
 use Rattle.ja_work.specs.declared.clause.Spot.{Spot}
 use Rattle.ja_work.specs.declared.clause.Clause.{Clause}
 use Rattle.ja_work.specs.declared.frame.Frame.{Frame}
@@ -23,6 +24,11 @@ pub record IsLed (frame : Frame) (clauses : Spot → Clause) (before after : Var
 abbrev pub IsLedOn : Frame → (Spot → Clause) → (φ ψ : Function) → Type 0
 IsLedOn frame clauses φ ψ = (after : Variables) → (ψ after ≡ true) ↔ ((before : Variables) × IsLed frame clauses before after × (φ before ≡ true))
 
--- the rule is that of the clauses: it leads where they do
-abbrev pub IsRuleOf : Frame → (Spot → Clause) → Rule → Type 0
-IsRuleOf frame clauses rule = (before after : Variables) → Leads rule before after ↔ IsLed frame clauses before after
+-- the rule is that of the clauses: it leads where they do, and has moves for variables of the frame at present alone
+pub record IsRuleOf (frame : Frame) (clauses : Spot → Clause) (rule : Rule) : Type 0 where
+  pub leads : (before after : Variables) → Leads rule before after ↔ IsLed frame clauses before after
+  pub still : (v : ℕ) → is_present frame v ≡ false → IsStill rule.moves.items v
+
+-- from assignments at the entry and at present of which the first holds, the clauses lead to those of which the second does
+abbrev pub LeadOn : (Spot → Clause) → (holds later : (entry now : Assignment) → Type 0) → Type 0
+LeadOn clauses holds later = (a b after : Assignment) → holds a b → AllFit clauses b after → later a after

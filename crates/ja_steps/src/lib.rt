@@ -4,10 +4,12 @@
 
 mod case;
 mod end;
+mod law;
 mod make;
 mod masks;
 mod parts;
 mod places;
 
 pub use end::End;
+pub use law::{law_rules, law_sets, law_unread};
 pub use make::rule_of;

@@ -2,13 +2,15 @@ use Rattle.std.proofs.Common.{◌≡◌, ℕ, ◌+◌, ◌*◌, ◌^◌, ◌≤�
 use Rattle.ja_node_core.specs.Tree.{Assignment as Variables}
 use Rattle.ja_work.specs.declared.clause.Clause.{Clause}
 use Rattle.ja_steps.specs.Ends.{clauses_of}
-use Rattle.ja_steps.specs.Parts.{AreListed, HaveRange, IsMadeOf}
+use Rattle.ja_work.specs.Frames.{size}
+use Rattle.ja_steps.specs.Parts.{AreListed, HaveRange, IsMadeOf, parts_of}
 use Rattle.ja_steps.proofs.Ending.{end_outside}
-use Rattle.ja_steps.proofs.Guessing.{leads_led, led_leads}
+use Rattle.ja_steps.proofs.Guessing.{leads_led, led_leads, moves_still}
+use Rattle.ja_steps.proofs.Moving.{part_place}
 use Rattle.ja_steps.proofs.make.rule_of.Goals as goal
 
 pub returns : goal.returns
-returns c before after =
+returns c =
     let frame = c.args.frame.now in
     let list = c.in_ok-clauses.clauses.items in
     let sources = c.in_ok-sources.sources.items in
@@ -22,7 +24,11 @@ returns c before after =
       subst (λ (xs : List ℕ). IsMadeOf frame list xs range cases rule) c.deref-4.ensures.value
       (subst (λ (xs : List Clause). IsMadeOf frame xs c.deref-4.result.now range cases rule) c.deref-3.ensures.value c.in_ok-rule.ensures) in
     let counted : length sources ≡ c.len-2.result = sym (ap (λ (xs : List ℕ). length xs) c.deref-4.ensures.value) ∙ c.deref-4.ensures.len ∙ sym c.len-2.ensures in
-    let enough : 2 * 2 ^ length sources ≤ cases = subst (λ n. n ≤ cases) (c.case_count-cases.ensures.count ∙ sym (ap (λ n. 2 * 2 ^ n) counted)) (omega arith) in (
-      leads_led frame (clauses_of c.args.end.now) list sources range cases are listed ranged before after rule made (end_outside frame c.args.end.now c.requires.room),
-      led_leads frame (clauses_of c.args.end.now) list sources range cases are listed ranged before after rule made c.case_count-cases.ensures.few enough,
-    )
+    let enough : 2 * 2 ^ length sources ≤ cases = subst (λ n. n ≤ cases) (c.case_count-cases.ensures.count ∙ sym (ap (λ n. 2 * 2 ^ n) counted)) (omega arith) in
+    record {
+      leads = λ before after. (
+        leads_led frame (clauses_of c.args.end.now) list sources range cases are listed ranged before after rule made (end_outside frame c.args.end.now c.requires.room),
+        led_leads frame (clauses_of c.args.end.now) list sources range cases are listed ranged before after rule made c.case_count-cases.ensures.few enough,
+      );
+      still = λ v out. moves_still sources cases (parts_of frame range list) (part_place frame range list) (size frame) rule.moves.items v made.moves out;
+    }
