@@ -1,14 +1,11 @@
 -- In a frame that has room for an end, its clauses let what lies outside stay false.
-use Rattle.std.proofs.Common.{◌≡◌, ℕ, ◌-◌, ◌<◌, Bool, true, false, refl, sym, ap, ◌∙◌, subst, arith}
+use Rattle.std.proofs.Common.{◌≡◌, ℕ, Bool, true, false, refl}
 use Rattle.std.specs.Prelude.{Some, None, if◌then◌else◌}
-use Rattle.ja_node_core.specs.Tree.{Assignment as Variables}
 use Rattle.ja_ir.specs.declared.op.Op.{Op}
-use Rattle.ja_work.specs.declared.clause.Spot.{Spot}
-use Rattle.ja_work.specs.declared.clause.Clause.{Clause}
 use Rattle.ja_work.specs.declared.frame.Frame.{Frame}
 use Rattle.ja_work.specs.Clauses.{fits, never}
 use Rattle.ja_work.specs.Ends.{Tests, normal_clauses}
-use Rattle.ja_work.specs.Frames.{is_inside, read, KeepsOutside}
+use Rattle.ja_work.specs.Frames.{read, KeepsOutside}
 use Rattle.ja_work.specs.Thrown.{HasRoom}
 use Rattle.ja_work.proofs.Fitting.{constant_fits}
 use Rattle.ja_work.proofs.Outside.{normal_outside, exceptional_outside, return_outside, throw_outside, caught_outside, value_outside, nothing_outside, leave_outside}

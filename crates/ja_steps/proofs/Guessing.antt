@@ -1,8 +1,8 @@
 -- A case says what was true before; where all places are allowed in some case, the clauses of all spots hold.
-use Rattle.std.proofs.Common.{◌≡◌, ◌≢◌, ℕ, zero, suc, ◌+◌, ◌*◌, ◌-◌, ◌^◌, ◌/◌, ◌%◌, ◌<◌, ◌≤◌, Bool, true, false, cond, refl, sym, ap, ◌∙◌, subst, arith, List, [], ◌∷◌, length, get_or, ◌⊎◌, inl, inr, ⊎_elim}
+use Rattle.std.proofs.Common.{◌≡◌, ℕ, zero, suc, ◌+◌, ◌*◌, ◌-◌, ◌^◌, ◌/◌, ◌%◌, ◌<◌, ◌≤◌, Bool, true, false, cond, refl, sym, ap, ◌∙◌, subst, arith, List, [], ◌∷◌, length, get_or, ◌⊎◌, inl, inr}
 use Rattle.std.specs.Prelude.{◌&&◌, ◌||◌, ◌==◌, not, nat_lt, nat_eq, Option, Some, None, slice_get, slice_index, if◌then◌else◌}
 use Rattle.std.proofs.Math.Nat.{pow-succ'}
-use Rattle.std.proofs.lemmas.Bool.{and_parts, and_from, cases_eq, eq-eqb, ne_eqb, eqb-true, eqb-false, ltb-true, ltb-false, lt-ltb, le-ltb}
+use Rattle.std.proofs.lemmas.Bool.{and_parts, and_from, eq-eqb, eqb-true, eqb-false, ltb-true, ltb-false, lt-ltb, le-ltb}
 use Rattle.std.proofs.lemmas.Option.{slice_get-get_or}
 use mathlib.Core.Logic.{dite}
 use native.Mathlib.Decide.{ℕ_discrete}
@@ -13,7 +13,7 @@ use Rattle.ja_work.specs.declared.clause.Spot.{Spot}
 use Rattle.ja_work.specs.declared.clause.Spot.TheVariants.{Local, OnStack, Dirt, Exc}
 use Rattle.ja_work.specs.declared.clause.Clause.{Clause}
 use Rattle.ja_work.specs.declared.frame.Frame.{Frame}
-use Rattle.ja_work.specs.Clauses.{value, value_if, bound, fits_as, fits, AllFit}
+use Rattle.ja_work.specs.Clauses.{value, value_if, bound, fits_as, fits}
 use Rattle.ja_work.specs.Frames.{number, size, spot_at, variable, is_inside, read, KeepsOutside}
 use Rattle.ja_work.proofs.Framing.{read_outside}
 use Rattle.ja_join.specs.declared.rule.Rule.{Rule}
@@ -23,10 +23,10 @@ use Rattle.ja_join.specs.Steps.{IsStill, Leads}
 use Rattle.ja_steps.specs.declared.parts.Part.{Part}
 use Rattle.ja_steps.specs.declared.make.Range.{Range}
 use Rattle.ja_steps.specs.Led.{is_present, IsLed}
-use Rattle.ja_steps.specs.Parts.{place_if, is_counted, part_of, is_same, is_listed, guessed, is_any, one_value, bound_in, agrees, allows_in, AreClauses, AreListed, HasRange, HaveRange, part_if, parts_of, AreMoves, IsMadeOf}
+use Rattle.ja_steps.specs.Inner.{place_if, is_counted, part_of, is_same, is_listed, guessed, is_any, one_value, bound_in, agrees, allows_in, AreClauses, AreListed, HasRange, HaveRange, part_if, parts_of, AreMoves, IsMadeOf}
 use Rattle.ja_steps.proofs.Moving.{part_place}
-use Rattle.ja_steps.proofs.Placing.{inside_at, place_at, place_within, spot_back, read_inside, value_at}
-use Rattle.ja_steps.proofs.Leaving.{some_below, none_below, still_behind, still_other, still_kept, stays_kept, all_allowed, some_counted, IsLeft, left_case, case_left}
+use Rattle.ja_steps.proofs.Placing.{place_within, spot_back, read_inside, value_at}
+use Rattle.ja_steps.proofs.Leaving.{some_below, still_behind, still_other, still_kept, stays_kept, all_allowed, some_counted, IsLeft, left_case, case_left}
 
 one_truth : (p q : Bool) → (p ≡ true → q ≡ true) → (q ≡ true → p ≡ true) → p ≡ q
 one_truth true q there back = sym (there refl)
@@ -89,8 +89,7 @@ moves_still sources cases parts placed n moves v are out = dite (ℕ_discrete (v
     (λ ne. still_other sources cases parts placed n moves v are ne)
 
 module _ (frame : Frame) (clauses : Spot → Clause) (list : List Clause) (sources : List ℕ) (range : Range) (cases : ℕ)
-  (are : AreClauses frame clauses list) (listed : AreListed frame list sources) (ranged : HaveRange range list) where
-
+    (are : AreClauses frame clauses list) (listed : AreListed frame list sources) (ranged : HaveRange range list) where
   abbrev pub parts : ℕ → Part
   parts = parts_of frame range list
 
@@ -140,21 +139,21 @@ module _ (frame : Frame) (clauses : Spot → Clause) (list : List Clause) (sourc
     counted_stacked : some_counted sources cases parts placed before after (size frame) ≡ any_stacked B range.first range.count
     counted_stacked = one_truth (any_below (λ j. (parts j).counted && at j) (size frame)) (any_stacked B range.first range.count)
         (λ e.
-          let found = some_below (λ j. (parts j).counted && at j) (size frame) e in
-          let lt = found.1 in
-          let both = and_parts (parts found.0).counted (at found.0) found.2 in
-          counted_slot (spot_at frame found.0) (ap (λ (p : Part). p.counted) (sym (part_at found.0 lt)) ∙ both.0) (value_at frame before found.0 lt ∙ both.1))
+        let found = some_below (λ j. (parts j).counted && at j) (size frame) e in
+        let lt = found.1 in
+        let both = and_parts (parts found.0).counted (at found.0) found.2 in
+        counted_slot (spot_at frame found.0) (ap (λ (p : Part). p.counted) (sym (part_at found.0 lt)) ∙ both.0) (value_at frame before found.0 lt ∙ both.1))
         (λ e.
-          let found = some_below (λ i. B.slot (InStack (range.first + i))) range.count e in
-          let k = range.first + found.0 in
-          let s = OnStack k in
-          let here = (and_parts (is_inside frame s) (before (variable frame s 1)) found.2).0 in
-          let j = slice_index frame.places (number frame s) in
-          let lt = place_within frame s here in
-          let back = spot_back frame s here in
-          let count : is_counted range.first range.count s ≡ true = and_from (not (nat_lt k range.first)) (nat_lt k (range.first + range.count)) (ap not (le-ltb k range.first (omega arith))) (lt-ltb k (range.first + range.count) (let f = found.1 in omega (arith, f))) in
-          any_from (λ j. (parts j).counted && at j) (size frame) j lt
-          (and_from (parts j).counted (at j) (ap (λ (p : Part). p.counted) (part_at j lt) ∙ ap (is_counted range.first range.count) back ∙ count) (sym (value_at frame before j lt) ∙ ap (value B) back ∙ found.2)))
+        let found = some_below (λ i. B.slot (InStack (range.first + i))) range.count e in
+        let k = range.first + found.0 in
+        let s = OnStack k in
+        let here = (and_parts (is_inside frame s) (before (variable frame s 1)) found.2).0 in
+        let j = slice_index frame.places (number frame s) in
+        let lt = place_within frame s here in
+        let back = spot_back frame s here in
+        let count : is_counted range.first range.count s ≡ true = and_from (not (nat_lt k range.first)) (nat_lt k (range.first + range.count)) (ap not (le-ltb k range.first (omega arith))) (lt-ltb k (range.first + range.count) (let f = found.1 in omega (arith, f))) in
+        any_from (λ j. (parts j).counted && at j) (size frame) j lt
+        (and_from (parts j).counted (at j) (ap (λ (p : Part). p.counted) (part_at j lt) ∙ ap (is_counted range.first range.count) back ∙ count) (sym (value_at frame before j lt) ∙ ap (value B) back ∙ found.2)))
 
     -- the clause's one spot
     one_is : (case j : ℕ) (clause : Clause) → Guesses case → j < size frame → slice_get list j ≡ Some clause → one_value sources case j (place_if frame clause.one) (at j) ≡ value_if B clause.one
@@ -166,7 +165,7 @@ module _ (frame : Frame) (clauses : Spot → Clause) (list : List Clause) (sourc
             let q = slice_index frame.places (number frame s) in
             let is : place_if frame clause.one ≡ Some q = ap (place_if frame) one ∙ ap (λ c. if c then Some q else None) here in
             let real : value B s ≡ at q = read_inside frame 1 before s here in
-            by_place (nat_eq q j) refl real (listed j q clause there is)
+            by_place (nat_eq q j) refl real (listed.all j q clause there is)
           where
             by_place : (c : Bool) → nat_eq (slice_index frame.places (number frame s)) j ≡ c → value B s ≡ at (slice_index frame.places (number frame s))
                 → ((slice_index frame.places (number frame s)) ≡ j) ⊎ (is_listed sources (slice_index frame.places (number frame s)) ≡ true)
@@ -271,7 +270,7 @@ module _ (frame : Frame) (clauses : Spot → Clause) (list : List Clause) (sourc
               each : (j : ℕ) → j < size frame → allows_in sources (parts j) case (at j) (after (4 * j + 1)) ≡ true
               each j within = and_from (agrees sources (parts j) case (at j)) (fits_as (parts j).exact (bound_in sources (parts j) case (at j)) (after (4 * j + 1)))
                   (agrees_listed case j (λ known. guess.places j known within)
-                    (λ hit. guess.any ∙ sym counted_stacked ∙ any_from (λ k. (parts k).counted && at k) (size frame) j within hit))
+                  (λ hit. guess.any ∙ sym counted_stacked ∙ any_from (λ k. (parts k).counted && at k) (size frame) j within hit))
                   (fits_is case j guess within ∙ led.fits (spot_at frame j))
 
               stay : (j : ℕ) → j < size frame → IsStill rule.moves.items (4 * j + 1) → before (4 * j + 1) ≡ after (4 * j + 1)

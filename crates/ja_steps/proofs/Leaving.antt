@@ -1,24 +1,21 @@
 -- What the moves of a rule leave of each case.
-use Rattle.std.proofs.Common.{◌≡◌, ◌≢◌, ℕ, zero, suc, ◌+◌, ◌*◌, ◌-◌, ◌^◌, ◌/◌, ◌%◌, ◌<◌, ◌≤◌, Bool, true, false, refl, sym, ap, ◌∙◌, subst, arith, List, [], ◌∷◌, ◌++◌, bit_and, bit_or, ⊎_elim}
+use Rattle.std.proofs.Common.{◌≡◌, ◌≢◌, ℕ, zero, suc, ◌+◌, ◌*◌, ◌-◌, ◌^◌, ◌/◌, ◌%◌, ◌<◌, ◌≤◌, Bool, true, false, refl, sym, ap, ◌∙◌, subst, arith, List, [], ◌∷◌, ◌++◌, bit_and, ⊎_elim}
 use Rattle.std.specs.Prelude.{◌&&◌, ◌||◌, ◌==◌, not, nat_lt, nat_eq, Some, if◌then◌else◌}
-use Rattle.std.specs.List.{All}
 use Rattle.std.specs.Int.Bits.{and_zero_r}
-use Rattle.std.proofs.lemmas.Bool.{and_parts, and_from, cases_eq, cases_lt, eq-eqb, ne_eqb, eqb-true, eqb-false, ltb-true, lt-ltb, le-ltb}
+use Rattle.std.proofs.lemmas.Bool.{and_parts, and_from, cases_lt, eq-eqb, ne_eqb, ltb-true}
 use Rattle.std.proofs.lemmas.Nat.Bits.{bit_at_ones_above}
 use mathlib.Core.Logic.{dite}
 use native.Mathlib.Decide.{ℕ_discrete}
 use Rattle.ja_node_core.specs.Tree.{Assignment as Variables}
 use Rattle.ja_facts.specs.Formulas.{any_below}
 use Rattle.ja_join.specs.declared.rule.States.{States}
-use Rattle.ja_join.specs.declared.rule.Masks.{Masks}
 use Rattle.ja_join.specs.declared.rule.Move.{Move}
 use Rattle.ja_join.specs.Moves.{masks_of, next_states, accepts, truth_after, allows}
 use Rattle.ja_join.specs.Steps.{IsStill}
 use Rattle.ja_work.specs.Clauses.{fits_as}
 use Rattle.ja_steps.specs.declared.parts.Part.{Part}
-use Rattle.ja_steps.specs.Parts.{is_same, is_listed, guessed, is_any, one_value, bound_in, agrees, allows_in, has, AreMasks, IsMoveOf, IsKept, AreMoves, none, moved, kept}
+use Rattle.ja_steps.specs.Inner.{is_same, is_listed, guessed, is_any, bound_in, agrees, allows_in, has, AreMasks, IsMoveOf, IsKept, AreMoves, none, moved, kept}
 use Rattle.ja_steps.proofs.Masking.{has_and, has_or, has_zero, has_ones, has_none}
-use Rattle.ja_steps.proofs.Moving.{IsBefore, moves_before}
 
 -- one of so many is true, or none is
 pub some_below : (test : ℕ → Bool) (n : ℕ) → any_below test n ≡ true → (k : ℕ) × (k < n) × (test k ≡ true)
@@ -256,7 +253,7 @@ module _ (sources : List ℕ) (cases : ℕ) (parts : ℕ → Part) (placed : (j 
           runs_none moves (next_states m (before m.variable) (truth_after m after) s)
           (has_and s.waiting masks.waiting case ∙ ap (λ x. x && has masks.waiting case) w)
           (has_or (bit_and s.seen masks.seen) (bit_and s.waiting masks.sees) case ∙ ap (λ x. x || has (bit_and s.waiting masks.sees) case) (has_and s.seen masks.seen case ∙ ap (λ x. x && has masks.seen case) e)
-            ∙ has_and s.waiting masks.sees case ∙ ap (λ x. x && has masks.sees case) w)
+          ∙ has_and s.waiting masks.sees case ∙ ap (λ x. x && has masks.sees case) w)
 
     -- some case may be left where the states are accepted that have seen
     accepted_some : (accepted s : States) → accepted.waiting ≡ 0 → accepted.seen ≡ 2 ^ 32 - 1 → accepts accepted s ≡ true → (case : ℕ) × (case < 32) × (has s.seen case ≡ true)
@@ -282,7 +279,7 @@ module _ (sources : List ℕ) (cases : ℕ) (parts : ℕ → Part) (placed : (j 
     some_accepted : (accepted s : States) (case : ℕ) → accepted.waiting ≡ 0 → accepted.seen ≡ 2 ^ 32 - 1 → case < 32 → has s.seen case ≡ true → accepts accepted s ≡ true
     some_accepted accepted s case quiet ones lt e = ap (λ x. not (x == 0) || not (bit_and s.seen accepted.seen == 0)) (ap (bit_and s.waiting) quiet ∙ and_zero_r s.waiting)
         ∙ ap (λ x. not (bit_and s.seen x == 0)) ones ∙ ap not (ne_eqb (bit_and s.seen (2 ^ 32 - 1)) 0 (λ zero'.
-          let clash : false ≡ true = sym (has_zero case) ∙ sym (ap (λ x. has x case) zero') ∙ has_and s.seen (2 ^ 32 - 1) case ∙ and_from (has s.seen case) (has (2 ^ 32 - 1) case) e (has_ones case lt) in cc clash))
+        let clash : false ≡ true = sym (has_zero case) ∙ sym (ap (λ x. has x case) zero') ∙ has_and s.seen (2 ^ 32 - 1) case ∙ and_from (has s.seen case) (has (2 ^ 32 - 1) case) e (has_ones case lt) in cc clash))
 
     -- a counted value that is true is so in the case
     pub counted_any : (case n : ℕ) → all_allowed case n ≡ true → some_counted n ≡ true → is_any case ≡ true
@@ -302,9 +299,8 @@ module _ (sources : List ℕ) (cases : ℕ) (parts : ℕ → Part) (placed : (j 
             (ap (λ x. x || counted_at n) (sym f) ∙ some) agree
 
     module _ (size : ℕ) (moves : List Move) (start accepted : States) (are : AreMoves sources cases parts size moves)
-      (waiting : (case : ℕ) → has start.waiting case ≡ (nat_lt case cases && is_any case)) (seen : (case : ℕ) → has start.seen case ≡ (nat_lt case cases && not (is_any case)))
-      (accepts_none : accepted.waiting ≡ 0) (accepts_seen : accepted.seen ≡ 2 ^ 32 - 1) (stay : Stay size moves) where
-
+        (waiting : (case : ℕ) → has start.waiting case ≡ (nat_lt case cases && is_any case)) (seen : (case : ℕ) → has start.seen case ≡ (nat_lt case cases && not (is_any case)))
+        (accepts_none : accepted.waiting ≡ 0) (accepts_seen : accepted.seen ≡ 2 ^ 32 - 1) (stay : Stay size moves) where
       -- a case of the rule in which all places are allowed, and in which some counted value is true exactly where it says so
       pub record IsLeft : Type 0 where
         pub case : ℕ

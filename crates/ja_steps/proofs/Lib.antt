@@ -6,3 +6,4 @@ pub mod Guessing
 pub mod Ending
 pub mod Setting
 pub mod Unread
+pub mod Needing

@@ -1,13 +1,13 @@
 -- Masks of cases.
-use Rattle.std.proofs.Common.{◌≡◌, ◌≢◌, ℕ, ◌+◌, ◌-◌, ◌*◌, ◌^◌, ◌%◌, ◌<◌, ◌≤◌, Bool, true, false, refl, sym, ap, ◌∙◌, subst, arith, bit_and, bit_or, ⊎_elim, min, max}
+use Rattle.std.proofs.Common.{◌≡◌, ◌≢◌, ℕ, ◌+◌, ◌-◌, ◌*◌, ◌^◌, ◌%◌, ◌<◌, Bool, true, false, refl, sym, ap, ◌∙◌, subst, arith, bit_and, bit_or, ⊎_elim, min, max}
 use Rattle.std.specs.Prelude.{◌&&◌, ◌||◌, ◌==◌, nat_lt}
 use Rattle.std.specs.Int.{bit_at}
 use Rattle.std.specs.Int.{w32}
 use mathlib.Core.Logic.{dite}
 use native.Mathlib.Decide.{ℕ_discrete}
-use Rattle.std.proofs.lemmas.Bool.{cases_lt, lt-ltb, le-ltb, ltb-false}
+use Rattle.std.proofs.lemmas.Bool.{cases_lt, lt-ltb, le-ltb}
 use Rattle.std.proofs.lemmas.Nat.Bits.{bit_at_and, bit_at_or, bit_at-lt, bit_at-zero, bit_at_ones, bit_at_set_same, bit_at_set_other, same_from_bits}
-use Rattle.ja_steps.specs.Parts.{has}
+use Rattle.ja_steps.specs.Inner.{has}
 
 -- a place that is not the last is before the next one as before the last
 lt_more : (j k : ℕ) → j ≢ k → nat_lt j k ≡ nat_lt j (k + 1)
@@ -18,14 +18,14 @@ module _ (m k : ℕ) (P : ℕ → Bool) (is : (j : ℕ) → has m j ≡ (nat_lt 
   pub more_set : k < 32 → P k ≡ true → (j : ℕ) → has (bit_or m (1 * 2 ^ k % 2 ^ 32)) j ≡ (nat_lt j (k + 1) && P j)
   more_set within e j = dite (ℕ_discrete j k)
       (λ same. subst (λ i. has (bit_or m (1 * 2 ^ k % 2 ^ 32)) i ≡ (nat_lt i (k + 1) && P i)) (sym same)
-          (ap (λ x. x == 1) (bit_at_set_same w32 m k within) ∙ sym (ap (λ c. c && P k) (lt-ltb k (k + 1) (omega arith)) ∙ e)))
+      (ap (λ x. x == 1) (bit_at_set_same w32 m k within) ∙ sym (ap (λ c. c && P k) (lt-ltb k (k + 1) (omega arith)) ∙ e)))
       (λ other. ap (λ x. x == 1) (bit_at_set_other w32 m k within j other) ∙ is j ∙ ap (λ c. c && P j) (lt_more j k other))
 
   -- and with one that is not
   pub more_unset : P k ≡ false → (j : ℕ) → has m j ≡ (nat_lt j (k + 1) && P j)
   more_unset e j = dite (ℕ_discrete j k)
       (λ same. subst (λ i. has m i ≡ (nat_lt i (k + 1) && P i)) (sym same)
-          (is k ∙ ap (λ c. c && P k) (le-ltb k k (omega arith)) ∙ sym (ap (λ c. c && P k) (lt-ltb k (k + 1) (omega arith)) ∙ e)))
+      (is k ∙ ap (λ c. c && P k) (le-ltb k k (omega arith)) ∙ sym (ap (λ c. c && P k) (lt-ltb k (k + 1) (omega arith)) ∙ e)))
       (λ other. is j ∙ ap (λ c. c && P j) (lt_more j k other))
 
 -- the bits of both numbers, and of either

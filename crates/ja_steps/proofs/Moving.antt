@@ -1,5 +1,5 @@
 -- The moves of the places of a frame, one after the other.
-use Rattle.std.proofs.Common.{◌≡◌, ℕ, zero, suc, ◌+◌, ◌*◌, ◌<◌, ◌≤◌, Bool, true, false, refl, sym, ap, ◌∙◌, subst, arith, List, [], ◌∷◌, ◌++◌, length, get_or, ◌⊎◌, inl, inr, ⊎_elim}
+use Rattle.std.proofs.Common.{◌≡◌, ℕ, suc, ◌+◌, ◌*◌, ◌<◌, ◌≤◌, Bool, true, false, refl, sym, ap, ◌∙◌, subst, arith, List, [], ◌∷◌, ◌++◌, length, get_or}
 use Rattle.std.specs.Prelude.{Option, Some, None, slice_get, nat_eq, ◌||◌}
 use Rattle.std.specs.List.{All, list_any}
 use Rattle.std.proofs.lemmas.List.Elements.{All-push, All-nil, All-weaker}
@@ -12,7 +12,7 @@ use Rattle.ja_work.specs.declared.clause.Clause.{Clause}
 use Rattle.ja_work.specs.declared.frame.Frame.{Frame}
 use Rattle.ja_steps.specs.declared.parts.Part.{Part}
 use Rattle.ja_steps.specs.declared.make.Range.{Range}
-use Rattle.ja_steps.specs.Parts.{place_if, part_of, is_listed, IsMoveOf, IsKept, AreMoves, none, moved, kept, IsNewSource, part_if, parts_of}
+use Rattle.ja_steps.specs.Inner.{part_of, is_listed, AreMoves, none, moved, kept, part_if, parts_of}
 
 -- each part is of its own place
 pub part_place : (frame : Frame) (range : Range) (list : List Clause) (j : ℕ) → (parts_of frame range list j).place ≡ j

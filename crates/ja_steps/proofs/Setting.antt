@@ -1,17 +1,15 @@
 -- What a step makes of a set of facts.
-use Rattle.std.proofs.Common.{◌≡◌, ◌≢◌, ℕ, ◌+◌, ◌*◌, ◌/◌, ◌%◌, ◌<◌, Bool, true, false, refl, sym, ap, ◌∙◌, subst, arith, inl, inr, List}
+use Rattle.std.proofs.Common.{◌≡◌, ℕ, ◌+◌, ◌*◌, ◌/◌, ◌%◌, Bool, true, false, refl, sym, ap, subst, arith, inl, List}
 use Rattle.std.specs.Prelude.{◌&&◌, ◌||◌, ◌↔◌, nat_lt, nat_eq, slice_index}
-use Rattle.std.proofs.lemmas.Bool.{and_parts, eq-eqb, eqb-true, ltb-true, lt-ltb}
 use Rattle.ja_node_core.specs.Tree.{Assignment as Variables}
 use Rattle.ja_ir.specs.declared.program.Parts.{Parts}
 use Rattle.ja_ir.specs.declared.method.Method.{Method}
 use Rattle.ja_facts.specs.declared.facts.Facts.{Facts}
-use Rattle.ja_facts.specs.Slots.{Slot, Local as InLocal, OnStack as InStack}
 use Rattle.ja_facts.specs.Formulas.{Assignment}
 use Rattle.ja_bdd.specs.Functions.{Function, IsFree}
 use Rattle.ja_join.specs.declared.rule.Rule.{Rule}
 use Rattle.ja_join.specs.Inner.{stepped_from}
-use Rattle.ja_join.specs.Steps.{IsStep, IsStill, IsBelow, IsGone, LooksAs, IsLow, ArePartsAimed}
+use Rattle.ja_join.specs.Steps.{IsStep, IsBelow, LooksAs, IsLow, ArePartsAimed}
 use Rattle.ja_join.proofs.Leading.{stepped_is}
 use Rattle.ja_join.proofs.Stepping.{gone_stepped, low_stepped}
 use Rattle.ja_work.specs.declared.clause.Spot.{Spot}
@@ -20,9 +18,9 @@ use Rattle.ja_work.specs.declared.frame.Frame.{Frame}
 use Rattle.ja_work.specs.Clauses.{spot_of}
 use Rattle.ja_work.specs.Frames.{size, number, spot_at, variable, is_inside, read}
 use Rattle.ja_work.specs.Told.{told}
-use Rattle.ja_work.specs.Work.{is_param_spot, is_own, is_param_slot, entry_of, IsSet, Saying, Says, IsMethod, IsWorkTree}
+use Rattle.ja_work.specs.Work.{is_param_spot, is_own, is_param_slot, entry_of, IsSet, Saying, IsMethod, IsWorkTree}
 use Rattle.ja_work.proofs.Working.{work_aimed, facts_work}
-use Rattle.ja_steps.specs.Led.{is_present, IsLed, IsRuleOf, IsLedOn, LeadOn}
+use Rattle.ja_steps.specs.Led.{is_present, IsRuleOf, IsLedOn, Telling, said, Tells, LeadOn}
 
 one_truth : (p q : Bool) → (p ≡ true → q ≡ true) → (q ≡ true → p ≡ true) → p ≡ q
 one_truth true q there back = sym (there refl)
@@ -71,21 +69,20 @@ entry_stays method frame before after others i = record {
   exc = false;
 }
 
-module _ (method : Method) (frame : Frame) (clauses : Spot → Clause) (rule : Rule) (holds later : (entry now : Assignment) → Type 0) (φ χ : Function)
-  (of : IsRuleOf frame clauses rule) (lead : LeadOn clauses holds later) (set : IsSet method frame holds φ) (is : IsStep rule φ χ) where
-
-  pub part_set : (ψ : Function) → LooksAs rule φ ψ → IsBelow ψ χ → IsSet method frame later ψ
+module _ (p : Parts) (f : Facts) (m : ℕ) (method : Method) (frame : Frame) (clauses : Spot → Clause) (rule : Rule) (first second : Telling p (told p f)) (φ χ : Function)
+    (of : IsRuleOf frame clauses rule) (lead : LeadOn p (told p f) m clauses first second) (set : IsSet method frame (Tells p (told p f) m first) φ) (is : IsStep rule φ χ) where
+  pub part_set : (ψ : Function) → LooksAs rule φ ψ → IsBelow ψ χ → IsSet method frame (Tells p (told p f) m second) ψ
   part_set ψ looks below = record {
     facts = λ after t.
-      let from = (is after).0 (below after t) in
-      let led = (of.leads from.0 after).0 from.1 in
-      subst (λ (a : Assignment). later a (read frame 1 after)) (entry_stays method frame from.0 after led.others)
-      (lead (entry_of method frame from.0) (read frame 1 from.0) (read frame 1 after) (set.facts from.0 from.2) led.fits);
+        let from = (is after).0 (below after t) in
+        let led = (of.leads from.0 after).0 from.1 in
+        subst (λ (a : Assignment). Tells p (told p f) m second a (read frame 1 after)) (entry_stays method frame from.0 after led.others)
+        (lead (entry_of method frame from.0) (read frame 1 from.0) (read frame 1 after) (set.facts from.0 from.2) led.fits);
     own = λ v out. looks v (inl (of.still v (present_own method frame v out), set.own v out));
   }
 
-pub parts_aimed : (p : Parts) (f : Facts) (frames : List Frame) (m : ℕ) (method : Method) (frame : Frame) (saying : Saying p (told p f)) (clauses : Spot → Clause) (rule : Rule) (holds : (entry now : Assignment) → Type 0) (φ χ : Function)
-    → IsMethod p (told p f) frames m method frame → IsRuleOf frame clauses rule → LeadOn clauses holds (Says p (told p f) m saying) → IsSet method frame holds φ → IsStep rule φ χ
+pub parts_aimed : (p : Parts) (f : Facts) (frames : List Frame) (m : ℕ) (method : Method) (frame : Frame) (saying : Saying p (told p f)) (clauses : Spot → Clause) (rule : Rule) (first : Telling p (told p f)) (φ χ : Function)
+    → IsMethod p (told p f) frames m method frame → IsRuleOf frame clauses rule → LeadOn p (told p f) m clauses first (said saying) → IsSet method frame (Tells p (told p f) m first) φ → IsStep rule φ χ
     → ArePartsAimed (IsWorkTree p (told p f) frames) rule φ χ
-parts_aimed p f frames m method frame saying clauses rule holds φ χ method_is of lead set is ψ low looks below =
-    work_aimed p (told p f) frames ψ (facts_work p (told p f) frames m method frame saying ψ method_is (part_set method frame clauses rule holds (Says p (told p f) m saying) φ χ of lead set is ψ looks below))
+parts_aimed p f frames m method frame saying clauses rule first φ χ method_is of lead set is ψ low looks below =
+    work_aimed p (told p f) frames ψ (facts_work p (told p f) frames m method frame saying ψ method_is (part_set p f m method frame clauses rule first (said saying) φ χ of lead set is ψ looks below))

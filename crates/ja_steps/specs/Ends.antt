@@ -4,7 +4,7 @@ use Rattle.ja_ir.specs.declared.op.Op.{Op}
 use Rattle.ja_ir.specs.declared.op.Op.TheVariants.{GetField, GetStatic}
 use Rattle.ja_ir.specs.Operations.{FindsOperands}
 use Rattle.ja_work.specs.declared.clause.Spot.{Spot}
-use Rattle.ja_work.specs.declared.clause.Spot.TheVariants.{Local, OnStack, Dirt, Exc}
+use Rattle.ja_work.specs.declared.clause.Spot.TheVariants.{OnStack}
 use Rattle.ja_work.specs.declared.clause.Clause.{Clause}
 use Rattle.ja_work.specs.declared.frame.Frame.{Frame}
 use Rattle.ja_work.specs.Clauses.{never}

@@ -2,6 +2,8 @@
 use Rattle.std.specs.Prelude.{◌≡◌, ◌↔◌, ℕ, ◌/◌, ◌%◌, ◌&&◌, nat_lt, nat_eq, Bool, true, false}
 use Rattle.ja_node_core.specs.Tree.{Assignment as Variables}
 use Rattle.ja_bdd.specs.Functions.{Function}
+use Rattle.ja_ir.specs.declared.program.Parts.{Parts}
+use Rattle.ja_facts.specs.Analyses.{Analyses}
 use Rattle.ja_facts.specs.Formulas.{Assignment}
 use Rattle.ja_join.specs.declared.rule.Rule.{Rule}
 use Rattle.ja_join.specs.Steps.{Leads, IsStill}
@@ -10,6 +12,7 @@ use Rattle.ja_work.specs.declared.clause.Clause.{Clause}
 use Rattle.ja_work.specs.declared.frame.Frame.{Frame}
 use Rattle.ja_work.specs.Clauses.{AllFit}
 use Rattle.ja_work.specs.Frames.{size, read}
+use Rattle.ja_work.specs.Work.{Saying, Says, IsThrown}
 
 -- the variable is one of the frame's in the copy at present
 abbrev pub is_present : Frame → (v : ℕ) → Bool
@@ -29,6 +32,17 @@ pub record IsRuleOf (frame : Frame) (clauses : Spot → Clause) (rule : Rule) : 
   pub leads : (before after : Variables) → Leads rule before after ↔ IsLed frame clauses before after
   pub still : (v : ℕ) → is_present frame v ≡ false → IsStill rule.moves.items v
 
--- from assignments at the entry and at present of which the first holds, the clauses lead to those of which the second does
-abbrev pub LeadOn : (Spot → Clause) → (holds later : (entry now : Assignment) → Type 0) → Type 0
-LeadOn clauses holds later = (a b after : Assignment) → holds a b → AllFit clauses b after → later a after
+module _ (p : Parts) (A : Analyses) where
+  -- what is told of the parameters and of an assignment: what sets of facts of the program's work say, or what an exceptional end of an
+  -- instruction may lead to
+  pub data Telling : Type 0 where
+    said : Saying p A → Telling
+    thrown_at : (i : ℕ) → Telling
+
+  abbrev pub Tells : (m : ℕ) → Telling → (a b : Assignment) → Type 0
+  Tells m (said saying) a b = Says p A m saying a b
+  Tells m (thrown_at i) a b = IsThrown p A m i a b
+
+  -- from what the first tells of method m the clauses lead to what the second does
+  abbrev pub LeadOn : (m : ℕ) → (Spot → Clause) → (first second : Telling) → Type 0
+  LeadOn m clauses first second = (a b after : Assignment) → Tells m first a b → AllFit clauses b after → Tells m second a after

@@ -1,3 +1,4 @@
 pub mod Led
 pub mod Ends
-pub mod Parts
+pub mod Wide
+pub mod Inner

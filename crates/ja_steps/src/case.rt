@@ -1,6 +1,6 @@
 ghost use Rattle.std.specs.Prelude.{◌≡◌, ◌/◌, ◌&&◌};
 ghost use Rattle.ja_work.specs.Clauses as clauses;
-ghost use Rattle.ja_steps.specs.Parts as parts;
+ghost use Rattle.ja_steps.specs.Inner as parts;
 
 use crate::parts::Part;
 
@@ -61,9 +61,7 @@ fn bound_in(sources: &[u32], part: &Part, case: u32, before: bool) -> bool
 fn agrees(sources: &[u32], part: &Part, case: u32, before: bool) -> bool
     ensures { result ≡ parts.agrees sources.now part.now case before }
 {
-    if is_listed(sources, part.place)
-        && !is_same(before, guessed(sources, case / 2, part.place))
-    {
+    if is_listed(sources, part.place) && !is_same(before, guessed(sources, case / 2, part.place)) {
         return false;
     }
     !(part.counted && before) || is_any(case)
@@ -82,13 +80,7 @@ fn fits_as(exact: bool, bound: bool, after: bool) -> bool
 }
 
 /// Whether in a case a place may have these truths.
-pub(crate) fn allows_in(
-    sources: &[u32],
-    part: &Part,
-    case: u32,
-    before: bool,
-    after: bool,
-) -> bool
+pub(crate) fn allows_in(sources: &[u32], part: &Part, case: u32, before: bool, after: bool) -> bool
     ensures { result ≡ parts.allows_in sources.now part.now case before after }
 {
     agrees(sources, part, case, before)

@@ -16,9 +16,9 @@ ghost use Rattle.ja_work.specs.declared.frame.Frame.{Frame};
 ghost use Rattle.ja_work.specs.Clauses.{AllFit};
 ghost use Rattle.ja_work.specs.Ends.{Tests, normal_clauses};
 ghost use Rattle.ja_work.specs.Told.{told};
-ghost use Rattle.ja_work.specs.Work.{IsMethod, IsSet, Saying, Says, IsWorkTree};
+ghost use Rattle.ja_work.specs.Work.{IsMethod, IsSet, Saying, IsWorkTree};
 ghost use Rattle.ja_steps.specs.Ends.{unread_clauses};
-ghost use Rattle.ja_steps.specs.Led.{IsRuleOf, IsLedOn, LeadOn};
+ghost use Rattle.ja_steps.specs.Led.{IsRuleOf, IsLedOn, Telling, said, Tells, LeadOn};
 
 /// A step by the rule of clauses makes of a relation exactly what the clauses lead to from it.
 pub fn law_rules()
@@ -29,11 +29,11 @@ pub fn law_rules()
 /// parts, which look at nothing else; what is made of a relation of low variables is one; and where these facts
 /// are said of the method, each part is of the aim of the program's work.
 pub fn law_sets()
-    ensures parts { (method : Method) (frame : Frame) (clauses : Spot → Clause) (rule : Rule) (holds later : (entry now : Assignment) → Type 0) (φ χ ψ : Function) → IsRuleOf frame clauses rule → LeadOn clauses holds later
-        → IsSet method frame holds φ → IsStep rule φ χ → LooksAs rule φ ψ → IsBelow ψ χ → IsSet method frame later ψ }
+    ensures parts { (p : Parts) (f : Facts) (m : ℕ) (method : Method) (frame : Frame) (clauses : Spot → Clause) (rule : Rule) (first second : Telling p (told p f)) (φ χ ψ : Function) → IsRuleOf frame clauses rule → LeadOn p (told p f) m clauses first second
+        → IsSet method frame (Tells p (told p f) m first) φ → IsStep rule φ χ → LooksAs rule φ ψ → IsBelow ψ χ → IsSet method frame (Tells p (told p f) m second) ψ }
     ensures whole { (rule : Rule) (φ χ : Function) → IsStep rule φ χ → LooksAs rule φ χ × (IsLow φ → IsLow χ) }
-    ensures aimed { (p : Parts) (f : Facts) (frames : List Frame) (m : ℕ) (method : Method) (frame : Frame) (saying : Saying p (told p f)) (clauses : Spot → Clause) (rule : Rule) (holds : (entry now : Assignment) → Type 0) (φ χ : Function)
-        → IsMethod p (told p f) frames m method frame → IsRuleOf frame clauses rule → LeadOn clauses holds (Says p (told p f) m saying) → IsSet method frame holds φ → IsStep rule φ χ
+    ensures aimed { (p : Parts) (f : Facts) (frames : List Frame) (m : ℕ) (method : Method) (frame : Frame) (saying : Saying p (told p f)) (clauses : Spot → Clause) (rule : Rule) (first : Telling p (told p f)) (φ χ : Function)
+        → IsMethod p (told p f) frames m method frame → IsRuleOf frame clauses rule → LeadOn p (told p f) m clauses first (said saying) → IsSet method frame (Tells p (told p f) m first) φ → IsStep rule φ χ
         → ArePartsAimed (IsWorkTree p (told p f) frames) rule φ χ }
 {}
 

@@ -1,8 +1,9 @@
-ghost use Rattle.std.specs.Prelude.{◌≡◌, ◌*◌, ◌^◌, ◌≤◌, IfOk, IfSome, IsTrue, length};
+ghost use Rattle.std.specs.Prelude.{◌≡◌, ◌≢◌, ◌*◌, ◌^◌, ◌≤◌, None, false, IfOk, IfSome, IsTrue, length};
 ghost use Rattle.ja_work.specs.Frames as frames;
 ghost use Rattle.ja_steps.specs.Ends.{FindsFor, HasRoomFor, clauses_of};
 ghost use Rattle.ja_steps.specs.Led.{IsRuleOf};
-ghost use Rattle.ja_steps.specs.Parts.{AreClauses, IsNewSource, AreListed, HaveRange, IsMadeOf};
+ghost use Rattle.ja_steps.specs.Wide.{IsWide};
+ghost use Rattle.ja_steps.specs.Inner.{AreClauses, IsNewSource, AreListed, IsRange, HasRange, HaveRange, LacksRange, IsMadeOf};
 
 use crate::case::is_listed;
 use crate::end::{End, clause_of};
@@ -56,8 +57,10 @@ fn sources_of(alloc: Global, frame: &Frame, clauses: &[Clause]) -> Result<Vec<u3
     Ok(sources)
 }
 
-/// The values on the stack that some clause looks at; none where no clause does.
-fn range_of(clauses: &[Clause]) -> Range {
+/// The values on the stack that some clause looks at together; none where no clause does.
+fn range_of(clauses: &[Clause]) -> Range
+    ensures { IsRange result clauses.now }
+{
     for clause in clauses {
         if clause.count != 0 {
             return Range {
@@ -69,13 +72,25 @@ fn range_of(clauses: &[Clause]) -> Range {
     Range { first: 0, count: 0 }
 }
 
+/// Whether a clause looks at no values on the stack together, or at these.
+fn has_range(range: Range, clause: &Clause) -> bool
+    ensures yes { IsTrue result → HasRange range clause.now }
+    ensures no { result ≡ false → (clause.now.count ≢ 0) × (clause.now.first ≡ range.first → clause.now.count ≡ range.count → ⊥) }
+{
+    clause.count == 0 || clause.first == range.first && clause.count == range.count
+}
+
 /// Whether all clauses that look at several values on the stack look at these.
 fn have_range(range: Range, clauses: &[Clause]) -> bool
-    ensures { IsTrue result → HaveRange range clauses.now }
+    ensures yes { IsTrue result → HaveRange range clauses.now }
+    ensures no { result ≡ false → LacksRange range clauses.now }
 {
-    clauses.iter().all(|clause| {
-        clause.count == 0 || clause.first == range.first && clause.count == range.count
-    })
+    for clause in clauses {
+        if !has_range(range, clause) {
+            return false;
+        }
+    }
+    true
 }
 
 /// The rule with a move for each place whose clause does not keep its spot.
@@ -131,15 +146,20 @@ fn case_count(places: usize) -> u32
 pub fn rule_of(alloc: Global, frame: &Frame, end: &End) -> Result<Option<Rule>, Memory>
     requires finds { FindsFor end.now }
     requires room { HasRoomFor frame.now end.now }
-    ensures { IfOk result (λ found. IfSome found (IsRuleOf frame.now (clauses_of end.now))) }
+    ensures rule { IfOk result (λ found. IfSome found (IsRuleOf frame.now (clauses_of end.now))) }
+    ensures none { IfOk result (λ found. found ≡ None → IsWide frame.now (clauses_of end.now)) }
 {
     let clauses = clauses_at(alloc, frame, end)?;
     let sources = sources_of(alloc, frame, &clauses)?;
+    let places: &[u32] = &sources;
     let range = range_of(&clauses);
-    if sources.len() > 4 || !have_range(range, &clauses) {
+    if places.len() > 4 {
         return Ok(None);
     }
-    let cases = case_count(sources.len());
-    let rule = rule_by(alloc, frame, &clauses, &sources, range, cases)?;
+    if !have_range(range, &clauses) {
+        return Ok(None);
+    }
+    let cases = case_count(places.len());
+    let rule = rule_by(alloc, frame, &clauses, places, range, cases)?;
     Ok(Some(rule))
 }

@@ -1,6 +1,6 @@
 ghost use Rattle.std.specs.Prelude.{◌≡◌, ◌*◌, ◌+◌, ◌≤◌, ◌&&◌, ℕ, nat_lt, IsTrue, Some};
 ghost use Rattle.ja_base.specs.Limit.{last_variable};
-ghost use Rattle.ja_steps.specs.Parts.{has, is_any, is_same, HasAllowed, AreMasks, IsMoveOf, IsKept};
+ghost use Rattle.ja_steps.specs.Inner.{has, is_any, is_same, HasAllowed, AreMasks, IsMoveOf, IsKept};
 
 use crate::case::{allows_in, is_any, is_listed, is_same};
 use crate::parts::Part;

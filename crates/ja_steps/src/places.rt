@@ -1,7 +1,7 @@
 ghost use Rattle.std.specs.Prelude.{◌≡◌, ◌+◌, ◌<◌, ◌≤◌, true, slice_index};
 ghost use Rattle.ja_base.specs.Limit.{max_frame_values};
 ghost use Rattle.ja_work.specs.Frames as frames;
-ghost use Rattle.ja_steps.specs.Parts as parts;
+ghost use Rattle.ja_steps.specs.Inner as parts;
 
 use crate::parts::Part;
 use ja_work::{Clause, Frame, Spot};

@@ -1,5 +1,5 @@
 use Rattle.std.proofs.Common.{◌≡◌, drop}
-use Rattle.ja_steps.specs.Parts as parts
+use Rattle.ja_steps.specs.Inner as parts
 use Rattle.ja_steps.proofs.case.guessed.Given as goal
 
 abbrev pub invariant-loop-source : goal.invariant-loop-source

@@ -1,9 +1,7 @@
-use Rattle.std.proofs.Common.{◌≡◌, ℕ, suc, ◌+◌, ◌*◌, refl, sym, ap, ◌∙◌, subst, arith, List, ◌++◌, ◌∷◌, []}
-use Rattle.ja_join.specs.declared.rule.Move.{Move}
+use Rattle.std.proofs.Common.{◌≡◌, suc, ◌+◌, ◌*◌, refl, sym, ap, ◌∙◌, subst, arith}
 use Rattle.ja_join.specs.declared.rule.Rule.{Rule}
-use Rattle.ja_work.specs.Frames.{size}
 use Rattle.ja_steps.specs.declared.parts.Part.{Part}
-use Rattle.ja_steps.specs.Parts.{IsMoveOf, IsKept, AreMoves, none, moved, kept, parts_of}
+use Rattle.ja_steps.specs.Inner.{IsMoveOf, IsKept, AreMoves, none, moved, kept, parts_of}
 use Rattle.ja_steps.proofs.Moving.{part_place, part_read, moves_before, may_follow}
 use Rattle.ja_steps.proofs.make.rule_by.Goals as goal
 use Rattle.ja_steps.proofs.make.rule_by.Goals.{then-not-is_kept+in_ok-push, else-not-is_kept}
@@ -31,21 +29,21 @@ loop-place-preserved c =
     let next : suc n ≡ n + 1 = omega arith in
     let held = c.loop-place.invariant in
     elim c.if-not-is_kept.branch [
-      then-not-is_kept+in_ok-push w ↦
-        let ok = w.in_ok-push.ensures in
-        let is = subst (λ (p : Part). IsMoveOf c.args.sources.now c.args.cases p w.move_of.result) read w.move_of.ensures in
-        let more = moved w.move_of.result held.moves is in
-        record {
-          moves = subst (λ (r : Rule). AreMoves c.args.sources.now c.args.cases parts (n + 1) r.moves.items) (sym w.rule-is)
-              (subst (λ k. AreMoves c.args.sources.now c.args.cases parts k w.push.new.self.moves.items) next (subst (AreMoves c.args.sources.now c.args.cases parts (suc n)) (sym ok.moves) more));
-          start = ap (λ (r : Rule). r.start) w.rule-is ∙ ok.frame.0 ∙ held.start;
-          accepted = ap (λ (r : Rule). r.accepted) w.rule-is ∙ ok.frame.1 ∙ held.accepted;
-        }
-    | else-not-is_kept w ↦
-        let is = subst (λ (p : Part). IsKept c.args.sources.now p) read (w.if-not-is_kept.ensures refl) in
-        record {
-          moves = subst (λ (r : Rule). AreMoves c.args.sources.now c.args.cases parts (n + 1) r.moves.items) (sym w.rule-is) (subst (λ k. AreMoves c.args.sources.now c.args.cases parts k c.loop-place.rule.moves.items) next (kept held.moves is));
-          start = ap (λ (r : Rule). r.start) w.rule-is ∙ held.start;
-          accepted = ap (λ (r : Rule). r.accepted) w.rule-is ∙ held.accepted;
-        }
+      | then-not-is_kept+in_ok-push w ↦
+          let ok = w.in_ok-push.ensures in
+          let is = subst (λ (p : Part). IsMoveOf c.args.sources.now c.args.cases p w.move_of.result) read w.move_of.ensures in
+          let more = moved w.move_of.result held.moves is in
+          record {
+            moves = subst (λ (r : Rule). AreMoves c.args.sources.now c.args.cases parts (n + 1) r.moves.items) (sym w.rule-is)
+                (subst (λ k. AreMoves c.args.sources.now c.args.cases parts k w.push.new.self.moves.items) next (subst (AreMoves c.args.sources.now c.args.cases parts (suc n)) (sym ok.moves) more));
+            start = ap (λ (r : Rule). r.start) w.rule-is ∙ ok.frame.0 ∙ held.start;
+            accepted = ap (λ (r : Rule). r.accepted) w.rule-is ∙ ok.frame.1 ∙ held.accepted;
+          }
+      | else-not-is_kept w ↦
+          let is = subst (λ (p : Part). IsKept c.args.sources.now p) read (w.if-not-is_kept.ensures refl) in
+          record {
+            moves = subst (λ (r : Rule). AreMoves c.args.sources.now c.args.cases parts (n + 1) r.moves.items) (sym w.rule-is) (subst (λ k. AreMoves c.args.sources.now c.args.cases parts k c.loop-place.rule.moves.items) next (kept held.moves is));
+            start = ap (λ (r : Rule). r.start) w.rule-is ∙ held.start;
+            accepted = ap (λ (r : Rule). r.accepted) w.rule-is ∙ held.accepted;
+          }
     ]

@@ -1,5 +1,5 @@
 use Rattle.std.proofs.Common.{◌≡◌}
-use Rattle.ja_steps.specs.Parts.{AreMoves, parts_of}
+use Rattle.ja_steps.specs.Inner.{AreMoves, parts_of}
 use Rattle.ja_steps.proofs.make.rule_by.Given as goal
 
 abbrev pub invariant-loop-place : goal.invariant-loop-place

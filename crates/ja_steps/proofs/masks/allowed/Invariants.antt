@@ -1,6 +1,6 @@
 use Rattle.std.proofs.Common.{◌≡◌, ℕ}
 use Rattle.std.specs.Prelude.{nat_lt, ◌&&◌}
-use Rattle.ja_steps.specs.Parts.{has, allows_in}
+use Rattle.ja_steps.specs.Inner.{has, allows_in}
 use Rattle.ja_steps.proofs.masks.allowed.Given as goal
 
 abbrev pub invariant-loop-case : goal.invariant-loop-case

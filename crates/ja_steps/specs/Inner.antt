@@ -1,16 +1,17 @@
 -- Words of the private functions: clauses by places, cases, and the moves that are made of them.
-use Rattle.std.specs.Prelude.{◌≡◌, ◌⊎◌, ◌-◌, ◌^◌, length, slice_get, ℕ, zero, suc, ◌+◌, ◌*◌, ◌/◌, ◌%◌, ◌<◌, ◌≤◌, ◌&&◌, ◌||◌, ◌==◌, not, nat_lt, nat_eq, Bool, true, false, List, [], ◌∷◌, ◌++◌, Option, Some, None, slice_index, if◌then◌else◌}
+use Rattle.std.specs.Prelude.{◌≡◌, ◌≢◌, ◌⊎◌, ◌-◌, ◌^◌, length, slice_get, ℕ, suc, ◌+◌, ◌*◌, ◌/◌, ◌%◌, ◌<◌, ◌&&◌, ◌||◌, ◌==◌, not, nat_lt, nat_eq, Bool, true, false, List, [], ◌∷◌, ◌++◌, Option, Some, None, slice_index, if◌then◌else◌}
 use Rattle.std.specs.Int.{bit_at}
 use Rattle.std.specs.List.{list_any}
 use Rattle.ja_join.specs.declared.rule.Masks.{Masks}
 use Rattle.ja_join.specs.declared.rule.Move.{Move}
 use Rattle.ja_work.specs.declared.clause.Spot.{Spot}
-use Rattle.ja_work.specs.declared.clause.Spot.TheVariants.{Local, OnStack, Dirt, Exc}
+use Rattle.ja_work.specs.declared.clause.Spot.TheVariants.{OnStack}
 use Rattle.ja_work.specs.declared.clause.Clause.{Clause}
 use Rattle.ja_work.specs.declared.frame.Frame.{Frame}
 use Rattle.ja_work.specs.Clauses.{fits_as}
 use Rattle.ja_work.specs.Frames.{size, number, spot_at, is_inside}
 use Rattle.ja_join.specs.declared.rule.Rule.{Rule}
+use Rattle.ja_steps.specs.Wide.{AreDistinct}
 use Rattle.ja_steps.specs.declared.parts.Part.{Part}
 use Rattle.ja_steps.specs.declared.make.Range.{Range}
 
@@ -118,11 +119,33 @@ pub record AreClauses (frame : Frame) (clauses : Spot → Clause) (list : List C
 -- what is added to the listed places for the clause at a place
 abbrev pub IsNewSource : Frame → List ℕ → (place : ℕ) → Clause → Option ℕ → Type 0
 IsNewSource frame sources place clause None = (q : ℕ) → place_if frame clause.one ≡ Some q → (q ≡ place) ⊎ (is_listed sources q ≡ true)
-IsNewSource frame sources place clause (Some source) = place_if frame clause.one ≡ Some source
+IsNewSource frame sources place clause (Some source) = (place_if frame clause.one ≡ Some source) × (source ≢ place) × (is_listed sources source ≡ false)
 
--- each other place that the clauses look at is listed
-abbrev pub AreListed : Frame → List Clause → List ℕ → Type 0
-AreListed frame list sources = (j q : ℕ) (clause : Clause) → slice_get list j ≡ Some clause → place_if frame clause.one ≡ Some q → (q ≡ j) ⊎ (is_listed sources q ≡ true)
+-- some clause looks at this other place
+pub record IsNeeded (frame : Frame) (list : List Clause) (q : ℕ) : Type 0 where
+  pub from : ℕ
+  pub clause : Clause
+  pub there : slice_get list from ≡ Some clause
+  pub one : place_if frame clause.one ≡ Some q
+  pub other : q ≢ from
+
+-- places at which some clauses look from others, each listed once
+pub record AreNeeded (frame : Frame) (list : List Clause) (sources : List ℕ) : Type 0 where
+  pub each : (k : ℕ) → k < length sources → IsNeeded frame list (slice_index sources k)
+  pub once : AreDistinct sources
+
+-- each other place that the clauses look at is listed, and no other one
+pub record AreListed (frame : Frame) (list : List Clause) (sources : List ℕ) : Type 0 where
+  pub all : (j q : ℕ) (clause : Clause) → slice_get list j ≡ Some clause → place_if frame clause.one ≡ Some q → (q ≡ j) ⊎ (is_listed sources q ≡ true)
+  pub needed : AreNeeded frame list sources
+
+-- the values are those that some clause looks at, if any does
+abbrev pub IsRange : Range → List Clause → Type 0
+IsRange range list = ((j : ℕ) (clause : Clause) → slice_get list j ≡ Some clause → clause.count ≡ 0) ⊎ ((j : ℕ) × (clause : Clause) × (slice_get list j ≡ Some clause) × (clause.count ≢ 0) × (clause.first ≡ range.first) × (clause.count ≡ range.count))
+
+-- some clause looks at other values together
+abbrev pub LacksRange : Range → List Clause → Type 0
+LacksRange range list = (j : ℕ) × (clause : Clause) × (slice_get list j ≡ Some clause) × (clause.count ≢ 0) × ((clause.first ≡ range.first) → (clause.count ≡ range.count) → ⊥)
 
 -- the clause looks at no values of the stack together, or at these
 abbrev pub HasRange : Range → Clause → Type 0
