@@ -119,22 +119,22 @@ module _ (p : Parts) (whole : IsWhole p) where
 
   module _ (names : Names) (net : Network) (shown : (f : Fact) → Classes p f ↔ Shows p names (Tells net) f) (graph : GraphTable) (reads : ReadsGraph p net graph) where
     -- a method that is listed is called, or is one without code that is
-    listed-calls : (m i n : ℕ) → Contains (targets_at graph m i).methods n → Calls p whole m i n ⊎ CallsNone p whole m i n
+    listed-calls : (m i n : ℕ) → Contains (targets_at graph m i).methods n → Calls p m i n ⊎ CallsNone p m i n
     listed-calls m i n h = elim ((reads.targets m i n).0 h).1 [
       | inl told ↦ inl (places p whole (CallsMethod m i n) ((shown (CallsMethod m i n)).1 told))
       | inr told ↦ inr (places p whole (CallsAbstract m i n) ((shown (CallsAbstract m i n)).1 told))
     ]
 
-    no-code : (m i n : ℕ) (method : Method) → slice_get p.methods n ≡ Some method → HasCode method → CallsNone p whole m i n → ⊥
+    no-code : (m i n : ℕ) (method : Method) → slice_get p.methods n ≡ Some method → HasCode method → CallsNone p m i n → ⊥
     no-code m i n method found code c =
-        let same : c.target.method ≡ method = same_Some c.target.method method (sym c.target.found ∙ found) in
+        let same : c.method ≡ method = same_Some c.method method (sym c.found ∙ found) in
         let none : length method.code ≡ 0 = ap (λ (x : Method). length x.code) (sym same) ∙ ap length c.none in
         omega arith
 
-    some-code : (m i n : ℕ) (method : Method) → slice_get p.methods n ≡ Some method → method.code ≡ [] → Calls p whole m i n → ⊥
+    some-code : (m i n : ℕ) (method : Method) → slice_get p.methods n ≡ Some method → method.code ≡ [] → Calls p m i n → ⊥
     some-code m i n method found none c =
-        let same : c.target.method ≡ method = same_Some c.target.method method (sym c.target.found ∙ found) in
-        let size : length c.target.method.code ≡ 0 = ap (λ (x : Method). length x.code) same ∙ ap length none in
+        let same : c.method ≡ method = same_Some c.method method (sym c.found ∙ found) in
+        let size : length c.method.code ≡ 0 = ap (λ (x : Method). length x.code) same ∙ ap length none in
         let code = c.code in
         omega arith
 
@@ -171,11 +171,11 @@ module _ (p : Parts) (whole : IsWhole p) where
     graph-has (InField f t) kept c = absurd kept
     graph-has (InBag b t) kept c = absurd kept
     graph-has (CallsMethod m i n) kept c =
-        let s : Calls p whole m i n = places p whole (CallsMethod m i n) c in
-        record { listed = (reads.targets m i n).1 ((s.at.at.instr, s.at.at.found), inl ((shown (CallsMethod m i n)).0 c)); method = s.target.method; found = s.target.found; code = s.code }
+        let s : Calls p m i n = places p whole (CallsMethod m i n) c in
+        record { listed = (reads.targets m i n).1 ((s.at.at.instr, s.at.at.found), inl ((shown (CallsMethod m i n)).0 c)); method = s.method; found = s.found; code = s.code }
     graph-has (CallsAbstract m i n) kept c =
-        let s : CallsNone p whole m i n = places p whole (CallsAbstract m i n) c in
-        record { listed = (reads.targets m i n).1 ((s.at.at.instr, s.at.at.found), inr ((shown (CallsAbstract m i n)).0 c)); method = s.target.method; found = s.target.found; none = s.none }
+        let s : CallsNone p m i n = places p whole (CallsAbstract m i n) c in
+        record { listed = (reads.targets m i n).1 ((s.at.at.instr, s.at.at.found), inr ((shown (CallsAbstract m i n)).0 c)); method = s.method; found = s.found; none = s.none }
     graph-has (CallsLibrary m i) kept c =
         let s : IsCall p m i = says p whole (CallsLibrary m i) c in
         (reads.library m i).1 ((s.at.at.instr, s.at.at.found), (shown (CallsLibrary m i)).0 c)

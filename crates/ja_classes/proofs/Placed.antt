@@ -43,9 +43,9 @@ absorbing-as p b (Some class) found e = let lt = slice_get_within p.classes b cl
 absorbing-as p b None found e = elim (or_cases (eqb b (lib_token p)) (eqb b (rarr_token p) || eqb b (parr_token p)) e) [
   | inl is ↦ let same = eqb-true b (lib_token p) is in omega arith
   | inr rest ↦ elim (or_cases (eqb b (rarr_token p)) (eqb b (parr_token p)) rest) [
-      | inl is ↦ let same = eqb-true b (rarr_token p) is in omega arith
-      | inr is ↦ let same = eqb-true b (parr_token p) is in omega arith
-    ]
+    | inl is ↦ let same = eqb-true b (rarr_token p) is in omega arith
+    | inr is ↦ let same = eqb-true b (parr_token p) is in omega arith
+  ]
 ]
 
 pub absorbing-below : (p : Parts) (b : ℕ) → absorbs p b ≡ true → b < token_count p

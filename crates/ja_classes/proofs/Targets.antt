@@ -27,6 +27,26 @@ use Rattle.ja_class_laws.proofs.Lists.{all-at}
 use Rattle.ja_class_laws.proofs.Params.{params-count}
 use Rattle.ja_class_laws.proofs.Frames.{described}
 
+-- a call goes to a method with code
+pub record Calls (p : Parts) (m i n : ℕ) : Type 0 where
+  pub call : CallOp
+  pub under : ℕ
+  pub at : CallAt p m i call under
+  pub target : IsTargetOf p call n
+  pub method : Method
+  pub found : slice_get p.methods n ≡ Some method
+  pub code : HasCode method
+
+-- to one without code
+pub record CallsNone (p : Parts) (m i n : ℕ) : Type 0 where
+  pub call : CallOp
+  pub under : ℕ
+  pub at : CallAt p m i call under
+  pub target : IsTargetOf p call n
+  pub method : Method
+  pub found : slice_get p.methods n ≡ Some method
+  pub none : method.code ≡ []
+
 -- ---- kinds of calls
 
 dispatched-spelled : (kind : CallKind) (call : CallOp) → is_dispatched kind ≡ true → HasTypes kind call.desc call.params call.result → IsMethod call.desc call.params call.result
@@ -97,8 +117,7 @@ module _ (p : Parts) (whole : IsWhole p) where
           → IsAnswer p name desc (if b then s.target else selection_among name desc selections) × IsMember p (if b then s.target else selection_among name desc selections)
       by true same further =
           let one : IsWholeSelection p s = All-contains (IsWholeSelection p) (s ∷ selections) s all (0, omega arith, refl) in
-          let both = and_parts (bytes_eq s.name name) (bytes_eq s.desc desc) same in
-          (
+          let both = and_parts (bytes_eq s.name name) (bytes_eq s.desc desc) same in (
             subst (λ d. IsAnswer p name d s.target) ((bytes_eq-Decides s.desc desc).0 both.1) (subst (λ x. IsAnswer p x s.desc s.target) ((bytes_eq-Decides s.name name).0 both.0) one.answer),
             one.member,
           )
@@ -112,37 +131,21 @@ module _ (p : Parts) (whole : IsWhole p) where
 
   -- ---- targets
 
-  -- a call goes to a method with code
-  pub record Calls (m i n : ℕ) : Type 0 where
-    pub call : CallOp
-    pub under : ℕ
-    pub at : CallAt p m i call under
-    pub target : IsTargetOf p call n
-    pub code : HasCode target.method
-
-  -- to one without code
-  pub record CallsNone (m i n : ℕ) : Type 0 where
-    pub call : CallOp
-    pub under : ℕ
-    pub at : CallAt p m i call under
-    pub target : IsTargetOf p call n
-    pub none : target.method.code ≡ []
-
   dispatched-target : (m i n under : ℕ) (call : CallOp) (method : Method) → CallAt p m i call under → is_dispatched call.kind ≡ true → IsNamed p n call.name call.desc method → is_member method.flags ≡ true → IsTargetOf p call n
   dispatched-target m i n under call method at dispatched named member =
       target-of call n method named (dispatched-spelled call.kind call dispatched (described p whole m i at.height call at.at).0) (member ∙ sym (dispatched-receiver call.kind dispatched)) (dispatched-call call.kind dispatched)
 
-  pub selects-calls : (m i n under t : ℕ) (call : CallOp) → CallAt p m i call under → is_dispatched call.kind ≡ true → Dispatches p call t (Program (record { 0 = n })) → Calls m i n
+  pub selects-calls : (m i n under t : ℕ) (call : CallOp) → CallAt p m i call under → is_dispatched call.kind ≡ true → Dispatches p call t (Program (record { 0 = n })) → Calls p m i n
   selects-calls m i n under t call at dispatched goes =
       let w = dispatch-whole call t (Program (record { 0 = n })) goes in
       let answer = w.0 in
-      record { call = call; under = under; at = at; target = dispatched-target m i n under call answer.0 at dispatched answer.1 (w.1 answer.0 answer.1.found); code = answer.2 }
+      record { call = call; under = under; at = at; target = dispatched-target m i n under call answer.0 at dispatched answer.1 (w.1 answer.0 answer.1.found); method = answer.0; found = answer.1.found; code = answer.2 }
 
-  pub selects-none : (m i n under t : ℕ) (call : CallOp) → CallAt p m i call under → is_dispatched call.kind ≡ true → Dispatches p call t (Abstract (record { 0 = n })) → CallsNone m i n
+  pub selects-none : (m i n under t : ℕ) (call : CallOp) → CallAt p m i call under → is_dispatched call.kind ≡ true → Dispatches p call t (Abstract (record { 0 = n })) → CallsNone p m i n
   selects-none m i n under t call at dispatched goes =
       let w = dispatch-whole call t (Abstract (record { 0 = n })) goes in
       let answer = w.0 in
-      record { call = call; under = under; at = at; target = dispatched-target m i n under call answer.0 at dispatched answer.1 (w.1 answer.0 answer.1.found); none = answer.2 }
+      record { call = call; under = under; at = at; target = dispatched-target m i n under call answer.0 at dispatched answer.1 (w.1 answer.0 answer.1.found); method = answer.0; found = answer.1.found; none = answer.2 }
 
   -- a method that a static or special call found can be called by it
   found-target : (m i n under : ℕ) (call : CallOp) (method found : Method) (target : MethodAt) → CallAt p m i call under → Finds call target → (target ≡ Library → ⊥) → slice_get p.methods n ≡ Some method → CanBeCalled call.kind method
@@ -167,12 +170,12 @@ module _ (p : Parts) (whole : IsWhole p) where
   found-answer m i under call _ at (in_static_field kind) = tt
   found-answer m i under call _ at (in_member_field kind) = tt
 
-  pub finds-calls : (m i n under : ℕ) (call : CallOp) (method : Method) → CallAt p m i call under → Finds call (Program (record { 0 = n })) → slice_get p.methods n ≡ Some method → CanBeCalled call.kind method → Calls m i n
+  pub finds-calls : (m i n under : ℕ) (call : CallOp) (method : Method) → CallAt p m i call under → Finds call (Program (record { 0 = n })) → slice_get p.methods n ≡ Some method → CanBeCalled call.kind method → Calls p m i n
   finds-calls m i n under call method at finds found can =
       let answer = found-answer m i under call (Program (record { 0 = n })) at finds in
-      record { call = call; under = under; at = at; target = found-target m i n under call method answer.0 (Program (record { 0 = n })) at finds (λ e. cc e) found can answer.1; code = answer.2 }
+      record { call = call; under = under; at = at; target = found-target m i n under call method answer.0 (Program (record { 0 = n })) at finds (λ e. cc e) found can answer.1; method = answer.0; found = answer.1.found; code = answer.2 }
 
-  pub finds-none : (m i n under : ℕ) (call : CallOp) (method : Method) → CallAt p m i call under → Finds call (Abstract (record { 0 = n })) → slice_get p.methods n ≡ Some method → CanBeCalled call.kind method → CallsNone m i n
+  pub finds-none : (m i n under : ℕ) (call : CallOp) (method : Method) → CallAt p m i call under → Finds call (Abstract (record { 0 = n })) → slice_get p.methods n ≡ Some method → CanBeCalled call.kind method → CallsNone p m i n
   finds-none m i n under call method at finds found can =
       let answer = found-answer m i under call (Abstract (record { 0 = n })) at finds in
-      record { call = call; under = under; at = at; target = found-target m i n under call method answer.0 (Abstract (record { 0 = n })) at finds (λ e. cc e) found can answer.1; none = answer.2 }
+      record { call = call; under = under; at = at; target = found-target m i n under call method answer.0 (Abstract (record { 0 = n })) at finds (λ e. cc e) found can answer.1; method = answer.0; found = answer.1.found; none = answer.2 }

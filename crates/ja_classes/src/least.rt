@@ -23,6 +23,8 @@ pub fn class_sets(alloc: Global, p: &Program) -> Result<(ClassSets, CallGraph), 
     ensures graph_of_program { IfOk result (λ both. IsGraphFor p.now both.1) }
     ensures takers_of_program { IfOk result (λ both. AreTakersFor p.now both.1) }
 {
+    // A program is whole.
+    let _parts = p.parts();
     let names = names_of(alloc, p)?;
     let classes = ClassNumbers::new(alloc, p)?;
     let network = solve(alloc, p, &names, &classes)?;
