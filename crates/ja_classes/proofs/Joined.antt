@@ -1,26 +1,23 @@
 -- Tables that say what a solved network tells are the least class sets and the least call graph.
-use Rattle.std.proofs.Common.{◌≡◌, ◌⊎◌, ◌↔◌, inl, inr, ℕ, ◌+◌, ◌<◌, ◌≤◌, Bool, true, List, [], Some, length, refl, sym, ap, subst, ◌∙◌, arith}
+use Rattle.std.proofs.Common.{◌≡◌, ◌⊎◌, ◌↔◌, inl, inr, ℕ, ◌+◌, ◌<◌, [], Some, length, sym, ap, subst, ◌∙◌, arith}
 use Rattle.std.specs.Prelude.{Contains, slice_get}
 use Rattle.std.proofs.lemmas.Option.{same_Some, slice_get_within}
 use Rattle.ja_ir.specs.declared.program.Parts.{Parts}
-use Rattle.ja_ir.specs.declared.class.Field.{Field}
 use Rattle.ja_ir.specs.declared.method.Method.{Method}
 use Rattle.ja_ir.specs.declared.op.CallOp.{CallOp}
 use Rattle.ja_ir.specs.declared.op.Op.TheVariants.{Call}
 use Rattle.ja_ir.specs.Lookup.{HasCode, OpAt}
-use Rattle.ja_ir.specs.Tokens.{absorbs}
 use Rattle.ja_ir.specs.Whole.{IsWhole}
-use Rattle.ja_sets.specs.Sets.{Has}
 use Rattle.ja_facts.specs.Analyses.{Classes}
 use Rattle.ja_facts.specs.Slots.{Slot, Local, OnStack}
-use Rattle.ja_facts.specs.ClassSets.{Fact, Reached, InEnv, InSlot, InThrown, InParam, InResult, InOut, InField, InBag, CallsMethod, CallsAbstract, CallsLibrary, Spans, Takes, HasField}
-use Rattle.ja_facts.specs.ClassTables.{ClassTable, token_count, field_set, bag_set}
-use Rattle.ja_facts.specs.FactTables.{GraphTable, is_reached, targets_at, takers_at}
-use Rattle.ja_facts.specs.Told.{IsNumbered, numbered_local, numbered_stack, SlotIs, SlotHas, LeadsBy, leads_itself, leads_by_field, leads_by_bag, TellsSets, TellsGraph, IsKeptSets, IsKeptGraph, GoesTo, GoesToAbstract, IsGraphFor, IsCallAt, IsTargetOf, IsReachedIn}
+use Rattle.ja_facts.specs.ClassSets.{Fact, Reached, InEnv, InSlot, InThrown, InParam, InResult, InOut, InField, InBag, CallsMethod, CallsAbstract, CallsLibrary, Spans, Takes}
+use Rattle.ja_facts.specs.ClassTables.{ClassTable}
+use Rattle.ja_facts.specs.FactTables.{GraphTable, targets_at}
+use Rattle.ja_facts.specs.Told.{IsNumbered, numbered_local, numbered_stack, SlotIs, LeadsBy, leads_itself, leads_by_field, leads_by_bag, TellsSets, TellsGraph, IsKeptSets, IsKeptGraph, IsGraphFor, IsTargetOf}
 use Rattle.ja_network.specs.declared.network.Network.{Network}
 use Rattle.ja_network.specs.Facts.{Tells}
 use Rattle.ja_cells.specs.Names.{Names, AreNames, row_at}
-use Rattle.ja_class_tables.specs.Reads.{HasExactly, IsBefore, IsInstr, MayRun, MayCall, ReadsSets, ReadsGraph}
+use Rattle.ja_class_tables.specs.Reads.{IsBefore, IsInstr, MayRun, ReadsSets, ReadsGraph}
 use Rattle.ja_class_laws.specs.Shown.{Shows, SlotShows}
 use Rattle.ja_class_laws.specs.Shown as shown_words
 use Rattle.ja_class_laws.proofs.Frames.{IsAt, IsCall, IsSlot, IsWithin, HasResult, instr-found, reached-at, says, same-op, call-is}

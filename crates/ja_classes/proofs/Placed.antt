@@ -1,18 +1,17 @@
 -- What class sets and calls are about is there.
-use Rattle.std.proofs.Common.{◌≡◌, ◌⊎◌, inl, inr, ℕ, ◌+◌, ◌<◌, Bool, true, false, ◌||◌, List, [], ◌∷◌, Option, Some, None, length, eqb, refl, sym, ap, subst, ◌∙◌, arith, true≢false}
-use Rattle.std.specs.Prelude.{All, Contains, slice_get}
-use Rattle.std.proofs.lemmas.Bool.{eqb-true, cases_Bool, or_cases}
+use Rattle.std.proofs.Common.{◌≡◌, inl, inr, ℕ, ◌<◌, true, ◌||◌, List, Option, Some, None, length, eqb, refl, subst, arith}
+use Rattle.std.specs.Prelude.{All, slice_get}
+use Rattle.std.proofs.lemmas.Bool.{eqb-true, or_cases}
 use Rattle.std.proofs.lemmas.Option.{slice_get_within}
 use Rattle.ja_ir.specs.declared.program.Parts.{Parts}
 use Rattle.ja_ir.specs.declared.class.ClassInfo.{ClassInfo}
 use Rattle.ja_ir.specs.declared.method.Method.{Method}
-use Rattle.ja_ir.specs.declared.method.Instr.{Instr}
 use Rattle.ja_ir.specs.declared.op.Op.{Op}
 use Rattle.ja_ir.specs.declared.op.Op.TheVariants.{PutField, PutStatic}
 use Rattle.ja_ir.specs.Lookup.{OpAt}
 use Rattle.ja_ir.specs.Tokens.{lib_token, rarr_token, parr_token, absorbs, absorbs_as}
 use Rattle.ja_ir.specs.Whole.{IsWhole, NamesAll, NamesOperands}
-use Rattle.ja_facts.specs.Least.{Each, Least, IsSolution}
+use Rattle.ja_facts.specs.Least.{Each, IsSolution}
 use Rattle.ja_facts.proofs.LeastLaws.{Each-weaker, Least-is_solution, Least-below}
 use Rattle.ja_facts.specs.Analyses.{Classes}
 use Rattle.ja_facts.specs.ClassTables.{token_count}

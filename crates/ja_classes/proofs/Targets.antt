@@ -1,5 +1,5 @@
 -- Where calls go: each target has the call's name, descriptor and number of arguments.
-use Rattle.std.proofs.Common.{◌≡◌, ◌↔◌, ℕ, zero, suc, ◌+◌, ◌<◌, Bool, true, false, List, [], ◌∷◌, Option, Some, None, length, refl, sym, ap, subst, ◌∙◌, arith, true≢false}
+use Rattle.std.proofs.Common.{◌≡◌, ◌↔◌, ℕ, suc, ◌+◌, Bool, true, false, List, [], ◌∷◌, Option, Some, length, refl, sym, ap, subst, ◌∙◌, arith, true≢false}
 use Rattle.std.specs.Prelude.{All, slice_get, not, bytes_eq, ◌&&◌, if◌then◌else◌}
 use Rattle.std.proofs.lemmas.Bool.{and_parts}
 use Rattle.std.proofs.lemmas.List.Elements.{All-contains}
@@ -17,7 +17,7 @@ use Rattle.ja_ir.specs.declared.op.CallOp.{CallOp}
 use Rattle.ja_ir.specs.declared.op.CallKind.{CallKind}
 use Rattle.ja_ir.specs.declared.op.CallKind.TheVariants.{Virtual, Special, Static, Interface, StaticField, MemberField}
 use Rattle.ja_ir.specs.Lookup.{HasCode, is_static, is_member, selection_among, selections_of}
-use Rattle.ja_ir.specs.Operations.{arguments, has_receiver, is_dispatched, count_of}
+use Rattle.ja_ir.specs.Operations.{has_receiver, is_dispatched, count_of}
 use Rattle.ja_ir.specs.Params.{param_count}
 use Rattle.ja_ir.specs.Whole.{IsWhole, IsWholeSelection, IsAnswer, IsMember, IsFound, IsNamed, HasTypes, IsWholeMethod}
 use Rattle.ja_facts.specs.Slots.{CallAt}

@@ -1,11 +1,8 @@
 use Rattle.std.proofs.Common.{◌↔◌, subst}
 use Rattle.std.proofs.lemmas.Result.{IfOk-weaker}
-use Rattle.ja_ir.specs.declared.program.Parts.{Parts}
 use Rattle.ja_ir.specs.Whole.{IsWhole}
 use Rattle.ja_facts.specs.Analyses.{Classes}
 use Rattle.ja_facts.specs.ClassSets.{Fact}
-use Rattle.ja_facts.specs.ClassTables.{ClassTable}
-use Rattle.ja_facts.specs.FactTables.{GraphTable}
 use Rattle.ja_facts.specs.Told.{IsGraphFor, IsKeptGraph, IsKeptSets, TellsGraph, TellsSets}
 use Rattle.ja_class_tables.specs.Reads.{ReadsSets, ReadsGraph}
 use Rattle.ja_classes.specs.Sized.{AreSetsFor, AreTakersFor}
