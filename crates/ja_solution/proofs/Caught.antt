@@ -1,13 +1,13 @@
 -- Where an exception goes inside a method, there is a handler.
-use Rattle.std.proofs.Common.{◌≡◌, ◌⊎◌, ℕ, zero, suc, ◌<◌, Bool, true, false, List, [], ◌∷◌, refl, sym, ap, ◌∙◌, subst, inl, inr, ⊎_elim, arith}
-use Rattle.std.specs.Prelude.{Option, Some, None, Contains, slice_get, if◌then◌else◌}
+use Rattle.std.proofs.Common.{◌≡◌, ◌⊎◌, ℕ, zero, suc, Bool, true, false, List, [], ◌∷◌, refl, subst, inl, inr, ⊎_elim, arith}
+use Rattle.std.specs.Prelude.{Option, Some, Contains, slice_get, if◌then◌else◌}
 use Rattle.ja_ir.specs.declared.program.Parts.{Parts}
 use Rattle.ja_ir.specs.declared.method.Method.{Method}
 use Rattle.ja_ir.specs.declared.method.Handler.{Handler}
 use Rattle.ja_ir.specs.declared.method.Catch.{Catch}
 use Rattle.ja_ir.specs.declared.method.Catch.TheVariants.{All as Everything, Program as InClass, Library as InLibrary}
 use Rattle.ja_ir.specs.Lookup.{at_or_below}
-use Rattle.ja_ir.specs.Handlers.{Place, Inside, Outside, in_range, dest_at, dest_among, handlers_of, dest}
+use Rattle.ja_ir.specs.Handlers.{Inside, Outside, in_range, dest_at, dest_among, handlers_of, dest}
 
 cons_of : {X : Type 0} (y : X) (ys : List X) (z : X) → Contains (y ∷ ys) z → (y ≡ z) ⊎ Contains ys z
 cons_of y ys z (zero, lt, is) = inl is

@@ -1,24 +1,21 @@
 -- Cells below the least solution, from which no rule gives more, mean it.
-use Rattle.std.proofs.Common.{◌≡◌, ℕ, zero, suc, ◌<◌, ◌%◌, Bool, true, false, List, [], ◌∷◌, get_or, refl, sym, ap, ◌∙◌, subst, arith}
-use Rattle.std.specs.Prelude.{◌↔◌, ◌&&◌, nat_eq, Some, slice_get}
+use Rattle.std.proofs.Common.{◌≡◌, ℕ, zero, suc, ◌%◌, Bool, true, false, List, [], get_or, refl, sym, ap, ◌∙◌, subst}
+use Rattle.std.specs.Prelude.{◌&&◌, nat_eq, Some, slice_get}
 use Rattle.std.proofs.lemmas.Bool.{and_parts, and_from, eqb-true, eq-eqb}
 use Rattle.std.proofs.lemmas.List.Folds.{list_any_at}
 use Rattle.std.proofs.lemmas.Option.{slice_get_within, get_or_from_slice_get}
 use Rattle.ja_ir.specs.declared.method.Method.{Method}
-use Rattle.ja_ir.specs.declared.entry.Site.{Site}
 use Rattle.ja_node_core.specs.Tree.{Assignment as Variables}
 use Rattle.ja_bdd.specs.Functions.{Function, IsFree}
-use Rattle.ja_facts.specs.Least.{Each, Iterate, Least, IsSolution}
-use Rattle.ja_facts.specs.Held.{Cell}
-use Rattle.ja_facts.specs.Told.{cell_number, IsCell}
+use Rattle.ja_facts.specs.Least.{Each, Iterate, IsSolution}
 use Rattle.ja_facts.specs.Slots.{Slot, Local, OnStack}
 use Rattle.ja_facts.specs.Formulas.{Assignment, Summary}
-use Rattle.ja_facts.specs.Equations.{Fact, Context, At, Normal, Threw, Stored, IsWarned}
+use Rattle.ja_facts.specs.Equations.{Fact, Context, At, Normal, Threw, Stored}
 use Rattle.ja_facts.proofs.LeastLaws.{Each-weaker, Least-is_solution, Least-below}
 use Rattle.ja_work.specs.declared.frame.Frame.{Frame}
 use Rattle.ja_work.specs.Frames.{read}
 use Rattle.ja_work.specs.Ends.{summary_of}
-use Rattle.ja_work.specs.Work.{IsMethod, IsSet, TellsSummary, entry_of, is_own, Saying, Says, before, of_context, of_return, of_throw}
+use Rattle.ja_work.specs.Work.{IsMethod, TellsSummary, entry_of, is_own, Saying, before, of_context, of_return, of_throw}
 use Rattle.ja_solution.specs.declared.cells.CellName.TheVariants.{Called, Returned, Thrown, Before}
 use Rattle.ja_blocks.specs.declared.blocks.ProgramBlock.{ProgramBlock}
 use Rattle.ja_blocks.specs.Blocks.{HasPlace, AreProgramBlocks}
@@ -112,7 +109,7 @@ pub cell_of : (x : Problem) (k : ℕ) (block : ProgramBlock) → slice_get x.blo
 cell_of x k block at a b =
     let here : get_or x.blocks k block ≡ block = get_or_from_slice_get x.blocks k block block at in
     list_any_at (begins_at block.method.0 block.first) x.blocks k block (slice_get_within x.blocks k block at)
-        (ap (begins_at block.method.0 block.first) here ∙ and_from (nat_eq block.method.0 block.method.0) (nat_eq block.first block.first) (eq-eqb block.method.0 block.method.0 refl) (eq-eqb block.first block.first refl))
+    (ap (begins_at block.method.0 block.first) here ∙ and_from (nat_eq block.method.0 block.method.0) (nat_eq block.first block.first) (eq-eqb block.method.0 block.method.0 refl) (eq-eqb block.first block.first refl))
 
 module _ (x : Problem) (v : Values) (blocks : AreProgramBlocks x.program x.blocks) (below : AreBelow x v) (closed : IsClosed x v) where
   from_block : (k : ℕ) (block : ProgramBlock) (at : slice_get x.blocks k ≡ Some block) (method : Method) (frame : Frame) (is : IsMethod x.program (known x) x.frames block.method.0 method frame) (u : Variables)

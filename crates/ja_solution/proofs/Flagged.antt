@@ -1,7 +1,7 @@
 -- A flag that is set, a block that is settled, and the first state.
-use Rattle.std.proofs.Common.{◌≡◌, ◌⊎◌, ℕ, zero, suc, ◌<◌, ◌≤◌, Bool, true, false, List, [], length, get_or, set, refl, sym, ap, ◌∙◌, subst, inl, inr, ⊎_elim, arith}
+use Rattle.std.proofs.Common.{◌≡◌, ◌⊎◌, ℕ, zero, suc, ◌<◌, Bool, true, false, List, length, get_or, set, refl, sym, ap, ◌∙◌, subst, inl, inr, ⊎_elim, arith}
 use Rattle.std.specs.declared.alloc.Global.{Global}
-use Rattle.std.specs.Prelude.{Vec, Some, replicate, slice_get, slice_index_or, slice_set}
+use Rattle.std.specs.Prelude.{Vec, Some, replicate, slice_get, slice_index_or}
 use Rattle.std.proofs.lemmas.List.{get_or-set_other, get_or-set_same, length-set, get_or-replicate, length-replicate}
 use Rattle.std.proofs.lemmas.Option.{slice_get_within}
 use native.Mathlib.Decide.{ℕ_discrete}
@@ -25,11 +25,11 @@ use Rattle.ja_solution.specs.declared.cells.Counts.{Counts}
 use Rattle.ja_solution.specs.declared.given.Given.{Given}
 use Rattle.ja_solution.specs.declared.state.State.{State}
 use Rattle.ja_solution.specs.Problem.{Problem, Solution}
-use Rattle.ja_solution.specs.Solved.{IsPartOf, IsOfCell, AreBelow}
-use Rattle.ja_solution.specs.Settled.{IsSettled, AreSettled}
-use Rattle.ja_solution.specs.Reads.{ReadsNoMore, Grow}
-use Rattle.ja_solution.specs.Nodes.{row, count_of, number_at, values_of, problem_of, IsGiven, IsStored, AreSized, AreNothing, IsState, is_dirty}
-use Rattle.ja_solution.specs.Marks.{AreMarked, ReadsCell, ReadsStored}
+use Rattle.ja_solution.specs.Solved.{IsPartOf, IsOfCell}
+use Rattle.ja_solution.specs.Settled.{IsSettled}
+use Rattle.ja_solution.specs.Reads.{Grow}
+use Rattle.ja_solution.specs.Nodes.{row, count_of, number_at, values_of, problem_of, IsGiven, IsStored, AreNothing, IsState, is_dirty}
+use Rattle.ja_solution.specs.InnerMarks.{AreMarked, ReadsStored}
 use Rattle.ja_solution.proofs.Transfer.{stays_settled}
 use Rattle.ja_solution.proofs.Raised.{unread}
 
@@ -98,7 +98,7 @@ module _ (given : Given) (is : IsGiven given) (k : Words) (state : State) (store
     };
     settled = λ b block at clean. stays_settled (problem_of given) is.layout.blocks b block at (values_of k state.cells) (values_of k (with_flags state.cells stored warned))
         (unread given is (values_of k state.cells) (values_of k (with_flags state.cells stored warned)) b block at (λ name. inr (same_at k state.cells stored warned name))
-            (λ n. changed n b (unmarked state.dirty.items dirty.items P marks b (let lt = slice_get_within given.layout.now.blocks b block at in let long = kept.sized.dirty in omega arith) clean)))
+        (λ n. changed n b (unmarked state.dirty.items dirty.items P marks b (let lt = slice_get_within given.layout.now.blocks b block at in let long = kept.sized.dirty in omega arith) clean)))
         (values_of k state.cells) (values_of k (with_flags state.cells stored warned)) grow (kept.settled b block at (was_clean state.dirty.items dirty.items P marks b clean));
   }
 
@@ -113,11 +113,11 @@ module _ (given : Given) (is : IsGiven given) (k : Words) (state : State) (numbe
     stored_state is_stored dirty marks kept = flagged_state given is k state flags state.cells.warned dirty (ReadsStored given.layout.now given.program.now.entries number) kept
         (ap (λ (bits : List Bool). length bits) set_is ∙ length-set state.cells.stored.items number true) refl marks stored_grows
         (λ c is_cell e. ⊎_elim (λ here. is_stored c is_cell here) (λ old. kept.below.stored c is_cell old)
-            (flag_old state.cells.stored.items number (cell_number given.program.now c) lt (subst (λ (bits : List Bool). slice_index_or bits (cell_number given.program.now c) false ≡ true) set_is e)))
+        (flag_old state.cells.stored.items number (cell_number given.program.now c) lt (subst (λ (bits : List Bool). slice_index_or bits (cell_number given.program.now c) false ≡ true) set_is e)))
         kept.below.warned
         (λ n b unmarked_b. dite (ℕ_discrete n number)
-            (λ same. inl (λ reads. unmarked_b (subst (λ m. ReadsStored given.layout.now given.program.now.entries m b) same reads)))
-            (λ ne. inr (ap (λ (bits : List Bool). slice_index_or bits n false) set_is ∙ get_or-set_other state.cells.stored.items number n true false ne)))
+        (λ same. inl (λ reads. unmarked_b (subst (λ m. ReadsStored given.layout.now given.program.now.entries m b) same reads)))
+        (λ ne. inr (ap (λ (bits : List Bool). slice_index_or bits n false) set_is ∙ get_or-set_other state.cells.stored.items number n true false ne)))
 
   -- a site is warned
   module _ (lt : number < length state.cells.warned.items) (set_is : flags.items ≡ set state.cells.warned.items number true) where
@@ -131,7 +131,7 @@ module _ (given : Given) (is : IsGiven given) (k : Words) (state : State) (numbe
         (record { counted = refl; kept = λ b e. e; marked = λ b within never. absurd never }) warned_grows
         kept.below.stored
         (λ s site found e. ⊎_elim (λ here. is_warned site (ap (slice_get given.program.now.sites) (sym here) ∙ found)) (λ old. kept.below.warned s site found old)
-            (flag_old state.cells.warned.items number s lt (subst (λ (bits : List Bool). slice_index_or bits s false ≡ true) set_is e)))
+        (flag_old state.cells.warned.items number s lt (subst (λ (bits : List Bool). slice_index_or bits s false ≡ true) set_is e)))
         (λ n b _. inr refl)
 
 -- a block whose rules hold needs no mark

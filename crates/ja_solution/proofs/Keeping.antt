@@ -1,15 +1,15 @@
 -- What a worker learns changes nothing that the cells mean; and what cells are for is kept where two functions are joined.
-use Rattle.std.proofs.Common.{◌≡◌, ◌⊎◌, ℕ, zero, suc, ◌<◌, ◌≤◌, Bool, true, false, List, [], ◌∷◌, length, refl, sym, ap, ◌∙◌, subst, inl, inr, ⊎_elim, arith}
+use Rattle.std.proofs.Common.{◌≡◌, ℕ, zero, suc, ◌<◌, Bool, true, false, List, [], ◌∷◌, length, refl, sym, ap, ◌∙◌, subst, arith}
 use Rattle.std.specs.Prelude.{◌||◌, Some, slice_get}
 use Rattle.ja_ir.specs.declared.method.Method.{Method}
 use Rattle.ja_node_core.specs.Tree.{Tree, Assignment as Variables}
 use Rattle.ja_node_core.specs.Node.{Words, Knows}
-use Rattle.ja_bdd.specs.Functions.{Function, either, IsFree, IsAimed}
+use Rattle.ja_bdd.specs.Functions.{Function, either, IsAimed}
 use Rattle.ja_bdd.specs.Meaning.{meaning, IsMeant, Keeps}
 use Rattle.ja_bdd.proofs.Fixing.{free_op}
 use Rattle.ja_work.specs.declared.frame.Frame.{Frame}
 use Rattle.ja_work.specs.Frames.{read}
-use Rattle.ja_work.specs.Work.{IsMethod, IsSet, entry_of, Says, Saying, of_context, of_return, of_throw, before}
+use Rattle.ja_work.specs.Work.{IsMethod, entry_of, Says, Saying, of_context, of_return, of_throw, before}
 use Rattle.ja_work.proofs.Working.{work_aimed, facts_work}
 use Rattle.ja_blocks.specs.declared.blocks.ProgramBlock.{ProgramBlock}
 use Rattle.ja_solution.specs.declared.cells.CellName.{CellName}

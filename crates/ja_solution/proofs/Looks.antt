@@ -1,19 +1,19 @@
 -- A function that looks at some variables alone has one value where these have one.
-use Rattle.std.proofs.Common.{◌≡◌, ◌⊎◌, ℕ, zero, suc, ◌+◌, ◌-◌, ◌*◌, ◌/◌, ◌%◌, ◌<◌, ◌≤◌, Bool, true, false, refl, sym, ap, ◌∙◌, subst, inl, inr, ⊎_elim, arith}
-use Rattle.std.specs.Prelude.{◌&&◌, ◌||◌, ◌==◌, nat_lt, nat_eq, if◌then◌else◌, slice_index}
-use Rattle.std.proofs.lemmas.Bool.{and_parts, and_from, lt-ltb, le-ltb, ltb-true, eqb-true, eq-eqb, ne_eqb}
+use Rattle.std.proofs.Common.{◌≡◌, ℕ, zero, suc, ◌+◌, ◌-◌, ◌*◌, ◌/◌, ◌%◌, ◌<◌, Bool, true, false, refl, sym, ap, ◌∙◌, subst, arith}
+use Rattle.std.specs.Prelude.{◌&&◌, ◌||◌, nat_lt, nat_eq, if◌then◌else◌, slice_index}
+use Rattle.std.proofs.lemmas.Bool.{and_parts, lt-ltb, le-ltb, ltb-true, eqb-true, eq-eqb, ne_eqb}
 use Rattle.std.proofs.Math.Logic.{∥∥₁_elim}
 use Rattle.std.proofs.Math.Nat.{ℕ_set}
 use Rattle.std.proofs.Math.Bridge.{le_prop}
 use mathlib.Core.Logic.{dite}
 use native.Mathlib.Decide.{ℕ_discrete, dec_lt}
-use Rattle.ja_base.specs.Limit.{last_variable, max_variables}
+use Rattle.ja_base.specs.Limit.{max_variables}
 use Rattle.ja_ir.specs.declared.method.Method.{Method}
 use Rattle.ja_node_core.specs.Tree.{Assignment as Variables}
 use Rattle.ja_bdd.specs.Functions.{Function, with_var, IsFree}
 use Rattle.ja_bdd.specs.Meaning.{with_below}
 use Rattle.ja_join.specs.Steps.{IsLow}
-use Rattle.ja_facts.specs.Slots.{Slot, Local as InLocal}
+use Rattle.ja_facts.specs.Slots.{Local as InLocal}
 use Rattle.ja_facts.specs.Formulas.{Assignment}
 use Rattle.ja_work.specs.declared.clause.Spot.{Spot}
 use Rattle.ja_work.specs.declared.clause.Spot.TheVariants.{Local, OnStack, Dirt, Exc}
@@ -29,15 +29,15 @@ module _ (φ : Function) (own : ℕ → Bool) (low : IsLow φ) (free : (v : ℕ)
       (λ e.
       ap (λ c. if c then b u else a u) (lt-ltb u (suc k) (omega arith)) ∙ ap b e ∙ sym (ap (λ c. if c then b k else with_below k b a u) (eq-eqb u k e)))
       (λ ne. sym (ap (λ c. if c then b k else with_below k b a u) (ne_eqb u k ne) ∙ dite (dec_lt u k)
-          (λ lt. ap (λ c. if c then b u else a u) (lt-ltb u k lt) ∙ sym (ap (λ c. if c then b u else a u) (lt-ltb u (suc k) (omega arith))))
-          (λ not. ap (λ c. if c then b u else a u) (le-ltb u k (omega arith)) ∙ sym (ap (λ c. if c then b u else a u) (le-ltb u (suc k) (omega arith))))))
+      (λ lt. ap (λ c. if c then b u else a u) (lt-ltb u k lt) ∙ sym (ap (λ c. if c then b u else a u) (lt-ltb u (suc k) (omega arith))))
+      (λ not. ap (λ c. if c then b u else a u) (le-ltb u k (omega arith)) ∙ sym (ap (λ c. if c then b u else a u) (le-ltb u (suc k) (omega arith))))))
 
   mix_same : (k u : ℕ) → a k ≡ b k → with_below (suc k) b a u ≡ with_below k b a u
   mix_same k u e = dite (ℕ_discrete u k)
       (λ is. ap (λ c. if c then b u else a u) (lt-ltb u (suc k) (omega arith)) ∙ ap b is ∙ sym e ∙ sym (ap a is) ∙ sym (ap (λ c. if c then b u else a u) (le-ltb u k (omega arith))))
       (λ ne. dite (dec_lt u k)
-          (λ lt. ap (λ c. if c then b u else a u) (lt-ltb u (suc k) (omega arith)) ∙ sym (ap (λ c. if c then b u else a u) (lt-ltb u k lt)))
-          (λ not. ap (λ c. if c then b u else a u) (le-ltb u (suc k) (omega arith)) ∙ sym (ap (λ c. if c then b u else a u) (le-ltb u k (omega arith)))))
+      (λ lt. ap (λ c. if c then b u else a u) (lt-ltb u (suc k) (omega arith)) ∙ sym (ap (λ c. if c then b u else a u) (lt-ltb u k lt)))
+      (λ not. ap (λ c. if c then b u else a u) (le-ltb u (suc k) (omega arith)) ∙ sym (ap (λ c. if c then b u else a u) (le-ltb u k (omega arith)))))
 
   mix_step : (k : ℕ) (o : Bool) → own k ≡ o → φ (with_below (suc k) b a) ≡ φ (with_below k b a)
   mix_step k true e = ap φ (λ i u. mix_same k u (same k e) i)
@@ -60,19 +60,19 @@ numbered_at frame n lt = dite (dec_lt n frame.locals)
     let first : numbered frame n ≡ (if nat_lt n (frame.locals + frame.stack) then OnStack (n - frame.locals) else (if nat_eq n (frame.locals + frame.stack) then Dirt else Exc)) =
     ap (λ c. if c then Local n else (if nat_lt n (frame.locals + frame.stack) then OnStack (n - frame.locals) else (if nat_eq n (frame.locals + frame.stack) then Dirt else Exc))) (le-ltb n frame.locals (omega arith)) in
     dite (dec_lt n (frame.locals + frame.stack))
-        (λ less.
-        let is : numbered frame n ≡ OnStack (n - frame.locals) = first ∙ ap (λ c. if c then OnStack (n - frame.locals) else (if nat_eq n (frame.locals + frame.stack) then Dirt else Exc)) (lt-ltb n (frame.locals + frame.stack) less) in
-        (ap (is_inside frame) is ∙ lt-ltb (n - frame.locals) frame.stack (omega arith), ap (number frame) is ∙ omega arith))
-        (λ past.
-        let second : numbered frame n ≡ (if nat_eq n (frame.locals + frame.stack) then Dirt else Exc) =
-        first ∙ ap (λ c. if c then OnStack (n - frame.locals) else (if nat_eq n (frame.locals + frame.stack) then Dirt else Exc)) (le-ltb n (frame.locals + frame.stack) (omega arith)) in
-        dite (ℕ_discrete n (frame.locals + frame.stack))
-            (λ e.
-            let is : numbered frame n ≡ Dirt = second ∙ ap (λ c. if c then Dirt else Exc) (eq-eqb n (frame.locals + frame.stack) e) in
-            (ap (is_inside frame) is, ap (number frame) is ∙ sym e))
-            (λ ne.
-            let is : numbered frame n ≡ Exc = second ∙ ap (λ c. if c then Dirt else Exc) (ne_eqb n (frame.locals + frame.stack) ne) in
-            (ap (is_inside frame) is, ap (number frame) is ∙ omega arith))))
+    (λ less.
+    let is : numbered frame n ≡ OnStack (n - frame.locals) = first ∙ ap (λ c. if c then OnStack (n - frame.locals) else (if nat_eq n (frame.locals + frame.stack) then Dirt else Exc)) (lt-ltb n (frame.locals + frame.stack) less) in
+    (ap (is_inside frame) is ∙ lt-ltb (n - frame.locals) frame.stack (omega arith), ap (number frame) is ∙ omega arith))
+    (λ past.
+    let second : numbered frame n ≡ (if nat_eq n (frame.locals + frame.stack) then Dirt else Exc) =
+    first ∙ ap (λ c. if c then OnStack (n - frame.locals) else (if nat_eq n (frame.locals + frame.stack) then Dirt else Exc)) (le-ltb n (frame.locals + frame.stack) (omega arith)) in
+    dite (ℕ_discrete n (frame.locals + frame.stack))
+    (λ e.
+    let is : numbered frame n ≡ Dirt = second ∙ ap (λ c. if c then Dirt else Exc) (eq-eqb n (frame.locals + frame.stack) e) in
+    (ap (is_inside frame) is, ap (number frame) is ∙ sym e))
+    (λ ne.
+    let is : numbered frame n ≡ Exc = second ∙ ap (λ c. if c then Dirt else Exc) (ne_eqb n (frame.locals + frame.stack) ne) in
+    (ap (is_inside frame) is, ap (number frame) is ∙ omega arith))))
 
 inside_value : (frame : Frame) (copy : ℕ) (a : Variables) (s : Spot) → is_inside frame s ≡ true → value (read frame copy a) s ≡ a (variable frame s copy)
 inside_value frame copy a (Local l) e = ap (λ c. c && a (variable frame (Local l) copy)) e

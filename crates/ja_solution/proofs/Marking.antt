@@ -1,11 +1,9 @@
 -- What is marked after more was marked.
-use Rattle.std.proofs.Common.{◌≡◌, ◌⊎◌, ℕ, ◌+◌, ◌<◌, ◌≤◌, Bool, true, false, List, [], length, get_or, set, refl, sym, ap, ◌∙◌, subst, inl, inr, ⊎_elim, arith}
-use Rattle.std.specs.Prelude.{Contains, slice_index_or, slice_set}
+use Rattle.std.proofs.Common.{◌≡◌, ◌⊎◌, ℕ, ◌<◌, Bool, true, false, List, length, get_or, set, refl, ap, ◌∙◌, ⊎_elim, arith}
 use Rattle.std.proofs.lemmas.List.{get_or-set_other, get_or-set_same, length-set}
 use native.Mathlib.Decide.{ℕ_discrete}
 use mathlib.Core.Logic.{dite}
-use Rattle.ja_solution.specs.Nodes.{is_dirty}
-use Rattle.ja_solution.specs.Marks.{AreMarked}
+use Rattle.ja_solution.specs.InnerMarks.{AreMarked}
 
 pub marked_none : (xs : List Bool) (P : ℕ → Type 0) → ((k : ℕ) → k < length xs → P k → ⊥) → AreMarked xs xs P
 marked_none xs P none = record { counted = refl; kept = λ k is. is; marked = λ k lt p. absurd (none k lt p) }

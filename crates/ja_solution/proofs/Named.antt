@@ -1,9 +1,8 @@
 -- The fields that instructions read are there.
-use Rattle.std.proofs.Common.{◌≡◌, ℕ, ◌+◌, ◌<◌, Some, length, sym, ap, ◌∙◌, subst, arith}
+use Rattle.std.proofs.Common.{◌≡◌, ℕ, ◌<◌, Some, length, sym, ap, ◌∙◌, subst, arith}
 use Rattle.std.specs.Prelude.{Option, All, slice_get}
 use Rattle.ja_ir.specs.declared.program.Parts.{Parts}
 use Rattle.ja_ir.specs.declared.method.Method.{Method}
-use Rattle.ja_ir.specs.declared.method.Instr.{Instr}
 use Rattle.ja_ir.specs.declared.op.Op.{Op}
 use Rattle.ja_ir.specs.declared.op.Op.TheVariants.{GetStatic, GetField, Const, Text, Load, Store, ArrLoad, ArrStore, Shuffle, Mix, Branch, Return, PutStatic, PutField, Call, New, NewArray, ArrLen, Throw, Cast, InstanceOf, Monitor, Nop}
 use Rattle.ja_ir.specs.Lookup.{code_of}

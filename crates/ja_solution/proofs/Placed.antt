@@ -1,31 +1,29 @@
 -- Each rule is applied at an instruction of some block.
-use Rattle.std.proofs.Common.{◌≡◌, ◌⊎◌, ℕ, zero, suc, ◌+◌, ◌<◌, ◌≤◌, Bool, true, false, List, [], ◌∷◌, length, refl, sym, ap, ◌∙◌, subst, inl, inr, ⊎_elim, arith}
-use Rattle.std.specs.Prelude.{◌&&◌, ◌||◌, nat_eq, Option, Some, None, All, Contains, slice_get}
+use Rattle.std.proofs.Common.{◌≡◌, ℕ, zero, suc, ◌<◌, Bool, true, false, List, [], ◌∷◌, length, refl, sym, ap, ◌∙◌, arith}
+use Rattle.std.specs.Prelude.{◌||◌, nat_eq, Option, Some, None, All, Contains, slice_get}
 use Rattle.std.specs.List.{list_any}
 use Rattle.std.proofs.lemmas.Bool.{and_parts, eqb-true}
-use Rattle.std.proofs.lemmas.Option.{slice_get_within, get_or_from_slice_get}
+use Rattle.std.proofs.lemmas.Option.{slice_get_within}
 use Rattle.ja_base.specs.declared.id.MethodId.{MethodId}
 use Rattle.ja_ir.specs.declared.program.Parts.{Parts}
 use Rattle.ja_ir.specs.declared.method.Method.{Method}
 use Rattle.ja_ir.specs.declared.method.Instr.{Instr}
 use Rattle.ja_ir.specs.declared.class.ClassInfo.{ClassInfo}
 use Rattle.ja_ir.specs.declared.entry.Entry.{Entry}
-use Rattle.ja_ir.specs.declared.op.Op.{Op}
-use Rattle.ja_ir.specs.Lookup.{HasCode, code_of, instr_at, OpAt}
-use Rattle.ja_ir.specs.Initializing.{InitAt, inits_of_class}
+use Rattle.ja_ir.specs.Lookup.{HasCode, code_of, instr_at}
+use Rattle.ja_ir.specs.Initializing.{inits_of_class}
 use Rattle.ja_ir.specs.Entries.{IsConstructorOf}
 use Rattle.ja_ir.specs.Whole.{IsWhole, IsWholeEntry, NamesInitializer}
 use Rattle.ja_ir.proofs.Cuts.{all-at}
 use Rattle.ja_ir.proofs.Entered.{constructor-says}
 use Rattle.ja_facts.specs.Held.{Cell}
 use Rattle.ja_facts.specs.Actions.{IsInitializer, IsConstructor}
-use Rattle.ja_facts.specs.Formulas.{Assignment, Summary}
-use Rattle.ja_facts.specs.Equations.{Fact, Context, At, Normal, Threw, Stored, stored_facts, Rule, initializer_called, constructor_called, entry_called, called, initialized, begins, steps, reads_stored_field, call_resumes, initializer_resumes, caught, callee_caught, leaves, callee_leaves, method_returns, method_ends, stored, taken}
-use Rattle.ja_blocks.specs.declared.blocks.ProgramBlock.{ProgramBlock}
-use Rattle.ja_blocks.specs.Blocks.{IsInSome, HasPlace, AreProgramBlocks}
-use Rattle.ja_solution.specs.Problem.{Problem, known, Gives}
+use Rattle.ja_facts.specs.Formulas.{Assignment}
+use Rattle.ja_facts.specs.Equations.{Fact, Context, At, stored_facts, initializer_called, constructor_called, entry_called, called, initialized, begins, steps, reads_stored_field, call_resumes, initializer_resumes, caught, callee_caught, leaves, callee_leaves, method_returns, method_ends, stored, taken}
+use Rattle.ja_blocks.specs.Blocks.{IsInSome, AreProgramBlocks}
+use Rattle.ja_solution.specs.Problem.{Problem, Gives}
 use Rattle.ja_solution.specs.Cells.{begins_at, has_cell}
-use Rattle.ja_solution.specs.Settled.{Place, beginning_of, applied_at, Has}
+use Rattle.ja_solution.specs.Settled.{Place, applied_at}
 
 -- what a list has is at a place of it
 pub at_place : {X : Type 0} (xs : List X) (y : X) → Contains xs y → (k : ℕ) × (slice_get xs k ≡ Some y)

@@ -1,19 +1,18 @@
 -- A cell that says more, and whose readers are marked.
-use Rattle.std.proofs.Common.{◌≡◌, ◌⊎◌, ℕ, ◌<◌, ◌≤◌, Bool, true, false, List, [], length, refl, sym, ap, ◌∙◌, subst, inl, inr, ⊎_elim, arith}
+use Rattle.std.proofs.Common.{◌≡◌, ◌⊎◌, ℕ, ◌<◌, Bool, true, false, length, refl, sym, ap, ◌∙◌, subst, inl, inr, ⊎_elim, arith}
 use Rattle.std.specs.declared.alloc.Global.{Global}
-use Rattle.std.specs.Prelude.{◌||◌, Vec, nat_eq, Some, slice_get, slice_index_or, if◌then◌else◌}
+use Rattle.std.specs.Prelude.{◌||◌, Vec, Some, slice_get, slice_index_or, if◌then◌else◌}
 use Rattle.std.proofs.lemmas.Bool.{eqb-true, eq-eqb}
 use Rattle.std.proofs.lemmas.Option.{slice_get_within}
 use Rattle.ja_node_core.specs.Node.{Words, Knows}
 use Rattle.ja_bdd.specs.Functions.{Function, either}
 use Rattle.ja_bdd.specs.Meaning.{meaning, IsMeant}
 use Rattle.ja_join.specs.Steps.{IsBelow}
-use Rattle.ja_facts.specs.Formulas.{Assignment, Summary}
 use Rattle.ja_facts.specs.Held.{Cell}
 use Rattle.ja_facts.specs.Told.{cell_number, IsCell}
-use Rattle.ja_facts.specs.Equations.{Fact, Context, At, Normal, Threw, Stored}
+use Rattle.ja_facts.specs.Equations.{Context, At, Normal, Threw, Stored}
 use Rattle.ja_blocks.specs.declared.blocks.ProgramBlock.{ProgramBlock}
-use Rattle.ja_blocks.specs.Blocks.{IsBlockIn, HasPlace, AreProgramBlocks}
+use Rattle.ja_blocks.specs.Blocks.{IsBlockIn, HasPlace}
 use Rattle.ja_blocks.specs.Readers.{ReadsEnd, GetsAt, HasInstr}
 use Rattle.ja_work.specs.Ends.{summary_of}
 use Rattle.ja_work.specs.Work.{TellsSummary}
@@ -22,17 +21,15 @@ use Rattle.ja_solution.specs.declared.cells.CellName.TheVariants.{Called, Return
 use Rattle.ja_solution.specs.declared.cells.Cells.{Cells}
 use Rattle.ja_solution.specs.declared.given.Given.{Given}
 use Rattle.ja_solution.specs.declared.state.State.{State}
-use Rattle.ja_solution.specs.Problem.{Problem}
-use Rattle.ja_solution.specs.Cells.{Values, Shows, ShowsBefore, InCells}
+use Rattle.ja_solution.specs.Cells.{Values, Shows}
 use Rattle.ja_solution.specs.Solved.{IsOfCell, AreBelow}
-use Rattle.ja_solution.specs.Settled.{IsSettled, AreSettled}
 use Rattle.ja_solution.specs.Reads.{BlockReads, ReadsNoMore, Grow}
-use Rattle.ja_solution.specs.Nodes.{row, number_at, values_of, same_cell, problem_of, IsGiven, IsCellName, AreSized, IsState, is_dirty}
-use Rattle.ja_solution.specs.Marks.{AreMarked, ReadsCell, ReadsStored}
+use Rattle.ja_solution.specs.Nodes.{row, number_at, values_of, same_cell, problem_of, IsGiven, IsCellName, IsState, is_dirty}
+use Rattle.ja_solution.specs.InnerMarks.{AreMarked, ReadsCell, ReadsStored}
 use Rattle.ja_solution.proofs.Unique.{listed_at, one_block, has_first}
 use Rattle.ja_solution.proofs.Named.{cell_lt, field_named}
 use Rattle.ja_solution.proofs.Transfer.{stays_settled}
-use Rattle.ja_solution.proofs.Keeping.{either_cell, grow_same}
+use Rattle.ja_solution.proofs.Keeping.{either_cell}
 
 -- cells with one name are one
 pub one_cell : (a b : CellName) → same_cell a b ≡ true → b ≡ a
@@ -71,7 +68,7 @@ module _ (given : Given) (is : IsGiven given) (v w : Values) (number : ℕ) (blo
   begins_listed : (m : ℕ) → block.method.0 ≡ m → block.first ≡ 0 → ReadsCell given.layout.now (Called m) number
   begins_listed m is_method is_first =
       (is.layout.beginners.exact m number (subst (λ n. n < length given.program.now.methods) is_method (slice_get_within given.program.now.methods block.method.0 own.method own.found))).1
-          (record { block = block; at = at; holds = (is_method, is_first) })
+      (record { block = block; at = at; holds = (is_method, is_first) })
 
   ends_listed : (n : ℕ) → n < length given.program.now.methods → HasInstr block (λ m i. ReadsEnd given.program.now given.facts.now.graph m i n) → ReadsCell given.layout.now (Returned n) number
   ends_listed n lt reads = (is.layout.callers.exact n number lt).1 (record { block = block; at = at; holds = reads })
@@ -82,9 +79,11 @@ module _ (given : Given) (is : IsGiven given) (v w : Values) (number : ℕ) (blo
       let f : ℕ = read.0 in
       let gets : GetsAt given.program.now block.method.0 has.i f = read.1 in
       let lt : f < length given.program.now.fields = field_named given.program.now is.whole block.method.0 has.i f gets in
-      inl (f,
+      inl (
+        f,
         (is.layout.holders.exact (cell_number given.program.now c) f (cell_lt given.program.now c is_cell)).1 (lt, read.2),
-        (is.layout.readers.exact f number lt).1 (record { block = block; at = at; holds = record { i = has.i; from = has.from; to = has.to; holds = gets } }))
+        (is.layout.readers.exact f number lt).1 (record { block = block; at = at; holds = record { i = has.i; from = has.from; to = has.to; holds = gets } }),
+      )
   stored_listed c is_cell (inr begins) = inr (begins.entry, begins.listed, begins_listed begins.entry.method.0 begins.is_method begins.is_first)
 
   pub unread : ReadsNoMore (problem_of given) block v w
@@ -121,7 +120,7 @@ module _ (given : Given) (is : IsGiven given) (k : Words) (state : State) (kept 
   raised_of other = ⊎_elim
       (λ old. subst (λ m. IsOfCell (problem_of given) other (meaning k m)) (sym old.1) (kept.below.cells other))
       (λ new. subst (λ (a : CellName). IsOfCell (problem_of given) a ((values_of k cells).at other)) (sym new.0)
-          (subst (IsOfCell (problem_of given) name) (sym (joined other new.0 new.1)) (either_cell (problem_of given) name ((values_of k state.cells).at name) (meaning k n) (kept.below.cells name) cell)))
+      (subst (IsOfCell (problem_of given) name) (sym (joined other new.0 new.1)) (either_cell (problem_of given) name ((values_of k state.cells).at name) (meaning k n) (kept.below.cells name) cell)))
       (each_cell other)
 
   stored_same : (m : ℕ) → (values_of k cells).stored m ≡ (values_of k state.cells).stored m
@@ -169,8 +168,8 @@ module _ (given : Given) (is : IsGiven given) (k : Words) (state : State) (kept 
     below = raised_below;
     settled = λ b block at clean. stays_settled (problem_of given) is.layout.blocks b block at (values_of k state.cells) (values_of k cells)
         (unread given is (values_of k state.cells) (values_of k cells) b block at
-            (λ other. ⊎_elim (λ old. inr (ap (meaning k) old.1)) (λ new. inl (λ reads. unmarked b block at clean (subst (λ (a : CellName). ReadsCell given.layout.now a b) new.0 reads))) (each_cell other))
-            (λ m. inr (stored_same m)))
+        (λ other. ⊎_elim (λ old. inr (ap (meaning k) old.1)) (λ new. inl (λ reads. unmarked b block at clean (subst (λ (a : CellName). ReadsCell given.layout.now a b) new.0 reads))) (each_cell other))
+        (λ m. inr (stored_same m)))
         (values_of k state.cells) (values_of k cells) raised_grows (kept.settled b block at (was_clean b clean));
   }
     where

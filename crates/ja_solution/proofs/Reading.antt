@@ -1,31 +1,30 @@
 -- The rules of a block go by what it reads, and by what is before its own instructions.
-use Rattle.std.proofs.Common.{◌≡◌, ◌⊎◌, ℕ, zero, suc, ◌+◌, ◌<◌, ◌≤◌, Bool, true, false, List, [], ◌∷◌, length, refl, sym, ap, ◌∙◌, subst, inl, inr, ⊎_elim, arith}
-use Rattle.std.specs.Prelude.{nat_eq, Option, Some, None, Contains, slice_get, slice_index_or}
+use Rattle.std.proofs.Common.{◌≡◌, ◌⊎◌, ℕ, zero, suc, ◌<◌, true, false, List, [], ◌∷◌, refl, sym, ap, ◌∙◌, subst, inl, inr, arith}
+use Rattle.std.specs.Prelude.{nat_eq, Option, Some, Contains, slice_get, slice_index_or}
 use Rattle.std.proofs.lemmas.Bool.{and_from, eq-eqb}
 use Rattle.std.proofs.lemmas.List.Folds.{list_any_at}
 use Rattle.std.proofs.lemmas.Option.{slice_get_within, get_or_from_slice_get}
 use native.Mathlib.Decide.{ℕ_discrete}
 use mathlib.Core.Logic.{dite}
 use Rattle.ja_ir.specs.declared.method.Method.{Method}
-use Rattle.ja_ir.specs.declared.method.Instr.{Instr}
 use Rattle.ja_ir.specs.declared.entry.Entry.{Entry}
-use Rattle.ja_ir.specs.Lookup.{code_of, instr_at, Leads}
+use Rattle.ja_ir.specs.Lookup.{code_of, Leads}
 use Rattle.ja_ir.specs.Handlers.{Inside, dest}
-use Rattle.ja_ir.specs.Blocks.{IsLeader, handles}
+use Rattle.ja_ir.specs.Blocks.{handles}
 use Rattle.ja_sets.specs.Sets.{Has as HasMember}
 use Rattle.ja_facts.specs.ClassSets.{CallsMethod}
 use Rattle.ja_facts.specs.Held.{Cell, FieldHolds}
 use Rattle.ja_facts.specs.FactTables.{targets_at}
 use Rattle.ja_facts.specs.Told.{cell_number}
-use Rattle.ja_facts.specs.Formulas.{Assignment, Summary}
-use Rattle.ja_facts.specs.Equations.{Fact, Context, At, Normal, Threw, Stored, stored_facts, Rule, initializer_called, constructor_called, entry_called, called, initialized, begins, steps, reads_stored_field, call_resumes, initializer_resumes, caught, callee_caught, leaves, callee_leaves, method_returns, method_ends, stored, taken}
+use Rattle.ja_facts.specs.Formulas.{Assignment}
+use Rattle.ja_facts.specs.Equations.{Fact, Context, At, Normal, Threw, Stored, stored_facts, initializer_called, constructor_called, entry_called, called, initialized, begins, steps, reads_stored_field, call_resumes, initializer_resumes, caught, callee_caught, leaves, callee_leaves, method_returns, method_ends, stored, taken}
 use Rattle.ja_blocks.specs.declared.blocks.ProgramBlock.{ProgramBlock}
 use Rattle.ja_blocks.specs.Blocks.{IsBlockIn, HasPlace, AreProgramBlocks}
-use Rattle.ja_blocks.specs.Readers.{HasInstr, IsRead}
+use Rattle.ja_blocks.specs.Readers.{IsRead}
 use Rattle.ja_blocks.proofs.Reading.{reads}
 use Rattle.ja_solution.specs.Problem.{Problem, known, Gives}
-use Rattle.ja_solution.specs.Cells.{Values, begins_at, has_cell}
-use Rattle.ja_solution.specs.Settled.{Place, beginning_of, applied_at, Has}
+use Rattle.ja_solution.specs.Cells.{begins_at, has_cell}
+use Rattle.ja_solution.specs.Settled.{applied_at, Has}
 use Rattle.ja_solution.specs.Reads.{BlockReads}
 use Rattle.ja_solution.proofs.Unique.{listed_at}
 use Rattle.ja_solution.proofs.Placed.{in_code}

@@ -1,23 +1,21 @@
 -- Rules of a block that hold go on holding while what the block reads stays.
-use Rattle.std.proofs.Common.{◌≡◌, ◌⊎◌, ℕ, zero, suc, ◌<◌, Bool, true, false, List, [], ◌∷◌, refl, sym, ap, ◌∙◌, subst, inl, inr, ⊎_elim, arith}
+use Rattle.std.proofs.Common.{◌≡◌, ℕ, zero, suc, true, false, List, [], ◌∷◌, refl, sym, ap, ◌∙◌, subst, inl, inr, arith}
 use Rattle.std.specs.Prelude.{Some, Contains, slice_get}
-use Rattle.ja_ir.specs.declared.entry.Site.{Site}
 use Rattle.ja_bdd.specs.Functions.{Function}
 use Rattle.ja_join.specs.Steps.{IsBelow}
-use Rattle.ja_facts.specs.Least.{Each, Iterate, Least}
-use Rattle.ja_facts.proofs.LeastLaws.{Each-weaker, Least-is_solution}
-use Rattle.ja_facts.specs.Held.{Cell}
-use Rattle.ja_facts.specs.Formulas.{Assignment, Summary}
-use Rattle.ja_facts.specs.Equations.{Fact, Context, At, Normal, Threw, Stored, IsWarned}
+use Rattle.ja_facts.specs.Least.{Each, Iterate}
+use Rattle.ja_facts.proofs.LeastLaws.{Least-is_solution}
+use Rattle.ja_facts.specs.Formulas.{Assignment}
+use Rattle.ja_facts.specs.Equations.{Fact, Context, At, Normal, Threw, Stored}
 use Rattle.ja_solution.specs.declared.cells.CellName.TheVariants.{Called, Returned, Thrown, Before}
 use Rattle.ja_blocks.specs.declared.blocks.ProgramBlock.{ProgramBlock}
 use Rattle.ja_blocks.specs.Blocks.{HasPlace, AreProgramBlocks}
-use Rattle.ja_solution.specs.Problem.{Problem, Gives}
-use Rattle.ja_solution.specs.Cells.{Values, Shows, ShowsBefore, InCells, has_cell, SaidBy, by_cell, by_rule, Said}
+use Rattle.ja_solution.specs.Problem.{Problem}
+use Rattle.ja_solution.specs.Cells.{Values, Shows, InCells, has_cell, SaidBy, by_cell, by_rule, Said}
 use Rattle.ja_solution.specs.Settled.{applied_at, Has, IsSettled}
 use Rattle.ja_solution.specs.Reads.{BlockReads, ReadsNoMore, Grow}
 use Rattle.ja_solution.proofs.Unique.{one_block, has_first}
-use Rattle.ja_solution.proofs.Reading.{IsBefore, IsUsed, premise_used, inside}
+use Rattle.ja_solution.proofs.Reading.{IsUsed, premise_used, inside}
 
 -- each fact of a list
 each_of : {F : Type 0} (S : F → Type 0) (fs : List F) → ((f : F) → Contains fs f → S f) → Each S fs
@@ -92,14 +90,14 @@ module _ (x : Problem) (blocks : AreProgramBlocks x.program x.blocks) (number : 
       by here rest ps f (by_rule none gives) each is =
           let at_here : Has block (applied_at ps f) = inside x blocks number block at ps f gives m i a b is here (sym (ap (has_cell x) is) ∙ none) in
           subst (Said x from) is (Least-is_solution (SaidBy x from) ps f (by_rule none gives)
-              (each_of (Said x from) ps (λ g has. rest g (premise_used x blocks number block at ps f gives at_here g has) (of_each (Iterate (SaidBy x to) n) ps each g has))))
+          (each_of (Said x from) ps (λ g has. rest g (premise_used x blocks number block at ps f gives at_here g has) (of_each (Iterate (SaidBy x to) n) ps each g has))))
 
   -- the block stays settled
   pub stays_settled : (old new : Values) → Grow old new → IsSettled x block from old → IsSettled x block to new
   stays_settled old new grow settled = record {
     rules = λ ps f gives has each cell.
-      in_grown x old new grow f (settled.rules ps f gives has
-          (each_of (Said x from) ps (λ g in_ps. let it = of_each (Said x to) ps each g in_ps in used_said it.0 g (premise_used x blocks number block at ps f gives has g in_ps) it.1)) cell);
+        in_grown x old new grow f (settled.rules ps f gives has
+        (each_of (Said x from) ps (λ g in_ps. let it = of_each (Said x to) ps each g in_ps in used_said it.0 g (premise_used x blocks number block at ps f gives has g in_ps) it.1)) cell);
     sites = λ k site found has w.
-      grow.warned k (settled.sites k site found has (record { call = w.call; under = w.under; at = w.at; a = w.a; b = w.b; fact = used_said w.fact.0 (At site.method.0 site.index w.a w.b) (inl has) w.fact.1; k = w.k; listed = w.listed; true_argument = w.true_argument }));
+        grow.warned k (settled.sites k site found has (record { call = w.call; under = w.under; at = w.at; a = w.a; b = w.b; fact = used_said w.fact.0 (At site.method.0 site.index w.a w.b) (inl has) w.fact.1; k = w.k; listed = w.listed; true_argument = w.true_argument }));
   }

@@ -1,13 +1,12 @@
 -- Each instruction is in one block.
-use Rattle.std.proofs.Common.{◌≡◌, ◌⊎◌, ℕ, ◌<◌, ◌≤◌, List, length, get_or, refl, sym, ap, ◌∙◌, subst, inl, inr, ⊎_elim, arith}
-use Rattle.std.specs.Prelude.{Some, AllPairs, Contains, slice_get}
+use Rattle.std.proofs.Common.{◌≡◌, ℕ, ◌<◌, List, get_or, refl, subst, inl, inr, arith}
+use Rattle.std.specs.Prelude.{Some, Contains, slice_get}
 use Rattle.std.proofs.lemmas.Option.{slice_get_within, get_or_from_slice_get}
-use Rattle.std.proofs.lemmas.Bool.{cases_eq}
-use native.Mathlib.Decide.{ℕ_discrete, dec_lt}
+use native.Mathlib.Decide.{dec_lt}
 use mathlib.Core.Logic.{dite}
 use Rattle.ja_ir.specs.declared.program.Parts.{Parts}
 use Rattle.ja_blocks.specs.declared.blocks.ProgramBlock.{ProgramBlock}
-use Rattle.ja_blocks.specs.Blocks.{IsBlockIn, HasPlace, Precedes, AreProgramBlocks}
+use Rattle.ja_blocks.specs.Blocks.{HasPlace, Precedes, AreProgramBlocks}
 
 -- the list has what stands in it
 pub listed_at : {X : Type 0} (xs : List X) (k : ℕ) (y : X) → slice_get xs k ≡ Some y → Contains xs y
@@ -31,8 +30,8 @@ module _ (p : Parts) (blocks : List ProgramBlock) (are : AreProgramBlocks p bloc
   one_block j k a b m i first second has too = dite (dec_lt j k)
       (λ lt. absurd (not_both a b m i (apart j k a b first second lt) has too))
       (λ not. dite (dec_lt k j)
-          (λ lt. absurd (not_both b a m i (apart k j b a second first lt) too has))
-          (λ neither. omega arith))
+      (λ lt. absurd (not_both b a m i (apart k j b a second first lt) too has))
+      (λ neither. omega arith))
 
   -- a block has its first instruction
   pub has_first : (k : ℕ) (block : ProgramBlock) → slice_get blocks k ≡ Some block → HasPlace block block.method.0 block.first

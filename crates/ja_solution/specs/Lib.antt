@@ -4,4 +4,4 @@ pub mod Solved
 pub mod Settled
 pub mod Reads
 pub mod Nodes
-pub mod Marks
+pub mod InnerMarks

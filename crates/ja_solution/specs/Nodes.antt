@@ -1,5 +1,5 @@
 -- The cells of a solver as nodes of a table, and what is kept of them.
-use Rattle.std.specs.Prelude.{◌≡◌, ◌↔◌, ◌⊎◌, ℕ, ◌<◌, ◌&&◌, nat_eq, Bool, true, false, List, [], Option, Some, None, Contains, length, replicate, slice_get, slice_index_or, if◌then◌else◌}
+use Rattle.std.specs.Prelude.{◌≡◌, ℕ, ◌<◌, nat_eq, Bool, false, List, Option, Some, None, length, replicate, slice_get, slice_index_or}
 use Rattle.ja_ir.specs.declared.method.Method.{Method}
 use Rattle.ja_ir.specs.Whole.{IsWhole}
 use Rattle.ja_node_core.specs.Tree.{Tree}
@@ -12,9 +12,7 @@ use Rattle.ja_facts.specs.Told.{cell_number, IsCell}
 use Rattle.ja_facts.specs.Equations.{Stored}
 use Rattle.ja_work.specs.declared.frame.Frame.{Frame}
 use Rattle.ja_work.specs.Work.{IsMethod, IsWorkTree}
-use Rattle.ja_blocks.specs.declared.layout.Layout.{Layout}
 use Rattle.ja_blocks.specs.Layouts.{IsLayout}
-use Rattle.ja_blocks.specs.Index.{InList}
 use Rattle.ja_solution.specs.declared.cells.CellName.{CellName}
 use Rattle.ja_solution.specs.declared.cells.CellName.TheVariants.{Called, Returned, Thrown, Before}
 use Rattle.ja_solution.specs.declared.cells.Cells.{Cells}

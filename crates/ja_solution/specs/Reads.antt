@@ -1,8 +1,6 @@
 -- What the rules of a block go by.
 use Rattle.std.specs.Prelude.{◌≡◌, ◌⊎◌, ℕ, true, Bool, Contains}
 use Rattle.ja_ir.specs.declared.entry.Entry.{Entry}
-use Rattle.ja_node_core.specs.Tree.{Assignment as Variables}
-use Rattle.ja_bdd.specs.Functions.{Function}
 use Rattle.ja_join.specs.Steps.{IsBelow}
 use Rattle.ja_facts.specs.Equations.{Fact, Context, At, Normal, Threw, Stored}
 use Rattle.ja_solution.specs.declared.cells.CellName.{CellName}

@@ -1,6 +1,10 @@
-ghost use Rattle.std.specs.Prelude.{◌≡◌, ◌↔◌, ℕ, Some, slice_get, ⊤};
+ghost use Rattle.std.specs.Prelude.{◌≡◌, ◌↔◌, ℕ, Some, false, slice_get, ⊤};
 ghost use Rattle.ja_facts.specs.Equations.{Fact};
 ghost use Rattle.ja_blocks.specs.Blocks.{AreProgramBlocks};
+ghost use Rattle.ja_node_core.specs.Node.{Words};
+ghost use Rattle.ja_solution.specs.declared.given.Given.{Given};
+ghost use Rattle.ja_solution.specs.declared.state.State.{State};
+ghost use Rattle.ja_solution.specs.Nodes.{values_of, problem_of, IsGiven, IsState, is_dirty};
 ghost use Rattle.ja_solution.specs.Problem.{Problem, Solution};
 ghost use Rattle.ja_solution.specs.Cells.{Values, Said};
 ghost use Rattle.ja_ir.specs.Whole.{IsWhole};
@@ -26,4 +30,10 @@ pub fn law_settled()
 pub fn law_stays_settled()
     ensures { (x : Problem) (number : ℕ) (block : ProgramBlock) (from to old new : Values) → AreProgramBlocks x.program x.blocks → slice_get x.blocks number ≡ Some block
         → ReadsNoMore x block from to → Grow old new → IsSettled x block from old → IsSettled x block to new }
+{}
+
+/// Where no block is to be looked at again, the cells mean the least solution.
+pub fn law_solved()
+    ensures { (given : Given) (k : Words) (state : State) → IsGiven given → IsState (problem_of given) k state → ((b : ℕ) → is_dirty state.dirty.items b ≡ false)
+        → AreExact (problem_of given) (values_of k state.cells) }
 {}

@@ -1,4 +1,4 @@
-ghost use Rattle.std.specs.Prelude.{◌≡◌, ◌<◌, ℕ, IfOk, OnOk, OnErr, IsTrue, Some, Contains, false, true, length, slice_get, slice_set, slice_index_or};
+ghost use Rattle.std.specs.Prelude.{◌≡◌, ◌≤◌, ◌<◌, ◌^◌, ℕ, IfSome, IfNone, IfOk, OnOk, OnErr, IsTrue, Some, Contains, false, true, length, slice_get, slice_set, slice_index_or};
 ghost use Rattle.ja_ir.specs.declared.entry.Site.{Site};
 ghost use Rattle.ja_node_core.specs.Node.{Words, Knows};
 ghost use Rattle.ja_node_table.specs.Seats.{aim_of};
@@ -13,8 +13,8 @@ ghost use Rattle.ja_solution.specs.Problem.{Solution};
 ghost use Rattle.ja_solution.specs.Settled.{IsSettled};
 ghost use Rattle.ja_solution.specs.Solved.{IsOfCell};
 ghost use Rattle.ja_solution.specs.Reads.{Grow};
-ghost use Rattle.ja_solution.specs.Nodes.{values_of, problem_of, IsGiven, IsForWork, IsCellName, IsStored, AreSized, IsState};
-ghost use Rattle.ja_solution.specs.Marks.{AreMarked, ReadsCell, ReadsOneOf, BeginsOneOf, ReadsStored};
+ghost use Rattle.ja_solution.specs.Nodes.{values_of, problem_of, IsGiven, IsForWork, IsCellName, IsStored, AreSized, IsState, is_dirty};
+ghost use Rattle.ja_solution.specs.InnerMarks.{AreMarked, ReadsCell, ReadsOneOf, BeginsOneOf, ReadsStored};
 
 use crate::cells::{CellName, Cells, Counts};
 use crate::given::Given;
@@ -207,4 +207,18 @@ pub fn first_state(alloc: Global, given: &Given) -> Result<State, Memory>
     let cells = Cells::new(alloc, counts)?;
     let dirty = Vec::from_elem(alloc, true, counts.blocks)?;
     Ok(State { cells, dirty })
+}
+
+/// The first block from a number on that is to be looked at again, if there is one.
+pub fn next_dirty(state: &State, from: u32) -> Option<u32>
+    requires { length state.now.dirty.items < 2 ^ 32 }
+    ensures some { IfSome result (λ b. (from ≤ b) × (b < length state.now.dirty.items) × (is_dirty state.now.dirty.items b ≡ true)) }
+    ensures none { IfNone result ((b : ℕ) → from ≤ b → is_dirty state.now.dirty.items b ≡ false) }
+{
+    for block in from..state.dirty.len() as u32 {
+        if state.dirty[block as usize] {
+            return Some(block);
+        }
+    }
+    None
 }

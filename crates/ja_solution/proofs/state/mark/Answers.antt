@@ -1,9 +1,9 @@
-use Rattle.std.proofs.Common.{◌≡◌, ◌+◌, ℕ, List, length, take, get_or, refl, sym, ap, ◌∙◌, subst, arith}
+use Rattle.std.proofs.Common.{◌≡◌, ◌+◌, ℕ, List, take, get_or, sym, subst}
 use Rattle.std.specs.Prelude.{Contains}
 use Rattle.std.proofs.lemmas.List.{get_or_default}
 use Rattle.ja_blocks.proofs.More.{taken_none, taken_more, taken_all}
-use Rattle.ja_solution.specs.Marks.{AreMarked}
-use Rattle.ja_solution.proofs.Marking.{marked_none, marked_then, marked_same}
+use Rattle.ja_solution.specs.InnerMarks.{AreMarked}
+use Rattle.ja_solution.proofs.Marking.{marked_none, marked_then}
 use Rattle.ja_solution.proofs.state.mark.Goals as goal
 
 pub loop-number-init : goal.loop-number-init
@@ -15,8 +15,8 @@ loop-number-preserved c =
     let i = c.loop-number.number-index in
     let y = get_or xs i 0 in
     marked_then c.args.dirty.now.items c.loop-number.dirty.items c.mark_one.new.dirty.items (λ k. Contains (take i xs) k) (λ k. k ≡ y) (λ k. Contains (take (i + 1) xs) k)
-        c.loop-number.invariant c.mark_one.ensures
-        (λ k has. (taken_more xs i y k c.loop-number-test.true (sym (get_or_default xs i y 0 c.loop-number-test.true))).1 has)
+    c.loop-number.invariant c.mark_one.ensures
+    (λ k has. (taken_more xs i y k c.loop-number-test.true (sym (get_or_default xs i y 0 c.loop-number-test.true))).1 has)
 
 pub returns : goal.returns
 returns c =

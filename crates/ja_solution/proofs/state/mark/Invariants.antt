@@ -1,5 +1,5 @@
 use Rattle.std.specs.Prelude.{Contains, take}
-use Rattle.ja_solution.specs.Marks.{AreMarked}
+use Rattle.ja_solution.specs.InnerMarks.{AreMarked}
 use Rattle.ja_solution.proofs.state.mark.Given as goal
 
 abbrev pub invariant-loop-number : goal.invariant-loop-number

@@ -1,10 +1,8 @@
-use Rattle.std.proofs.Common.{◌≡◌, ◌⊎◌, ◌+◌, ℕ, List, [], length, take, get_or, refl, sym, ap, ◌∙◌, subst, inl, inr, ⊎_elim, arith}
-use Rattle.std.specs.Prelude.{Contains, slice_index_or}
-use Rattle.std.proofs.lemmas.List.{get_or_default}
+use Rattle.std.proofs.Common.{◌+◌, ℕ, List, take, sym, ap, ◌∙◌, subst, inl, inr, ⊎_elim}
 use Rattle.ja_blocks.proofs.More.{taken_none, taken_more, taken_all}
 use Rattle.ja_blocks.specs.Index.{InList}
 use Rattle.ja_ir.specs.declared.entry.Entry.{Entry}
-use Rattle.ja_solution.specs.Marks.{AreMarked, BeginsOneOf}
+use Rattle.ja_solution.specs.InnerMarks.{AreMarked, BeginsOneOf}
 use Rattle.ja_solution.proofs.Marking.{marked_none, marked_then}
 use Rattle.ja_solution.proofs.state.mark_entries.Goals as goal
 
@@ -17,9 +15,9 @@ loop-entry-preserved c =
     let i = c.loop-entry.entry-index in
     let y : Entry = c.entry-item.result in
     marked_then c.args.dirty.now.items c.loop-entry.dirty.items c.mark_list.new.dirty.items (BeginsOneOf c.args.layout.now (take i xs)) (InList c.as_slice.result.now c.from.result) (BeginsOneOf c.args.layout.now (take (i + 1) xs))
-        c.loop-entry.invariant c.mark_list.ensures
-        (λ k p. ⊎_elim (λ old. inl (p.0, old, p.2)) (λ new. inr (subst (λ (q : List (List ℕ) × ℕ). InList q.0 q.1 k) (λ t. (sym c.as_slice.ensures t, (ap (λ (e : Entry). e.method.0) new ∙ sym c.from.ensures) t)) p.2))
-            ((taken_more xs i y p.0 c.loop-entry-test.true c.entry-item.is).1 p.1))
+    c.loop-entry.invariant c.mark_list.ensures
+    (λ k p. ⊎_elim (λ old. inl (p.0, old, p.2)) (λ new. inr (subst (λ (q : List (List ℕ) × ℕ). InList q.0 q.1 k) (λ t. (sym c.as_slice.ensures t, (ap (λ (e : Entry). e.method.0) new ∙ sym c.from.ensures) t)) p.2))
+    ((taken_more xs i y p.0 c.loop-entry-test.true c.entry-item.is).1 p.1))
 
 pub returns : goal.returns
 returns c =

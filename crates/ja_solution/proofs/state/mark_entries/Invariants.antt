@@ -1,5 +1,5 @@
 use Rattle.std.specs.Prelude.{take}
-use Rattle.ja_solution.specs.Marks.{AreMarked, BeginsOneOf}
+use Rattle.ja_solution.specs.InnerMarks.{AreMarked, BeginsOneOf}
 use Rattle.ja_solution.proofs.state.mark_entries.Given as goal
 
 abbrev pub invariant-loop-entry : goal.invariant-loop-entry

@@ -1,9 +1,8 @@
-use Rattle.std.proofs.Common.{◌≡◌, ◌⊎◌, ◌+◌, ℕ, List, [], length, take, get_or, refl, sym, ap, ◌∙◌, subst, inl, inr, ⊎_elim, arith}
-use Rattle.std.specs.Prelude.{Contains, slice_index_or}
+use Rattle.std.proofs.Common.{◌+◌, ℕ, List, take, get_or, sym, subst, inl, inr, ⊎_elim}
 use Rattle.std.proofs.lemmas.List.{get_or_default}
 use Rattle.ja_blocks.proofs.More.{taken_none, taken_more, taken_all}
 use Rattle.ja_blocks.specs.Index.{InList}
-use Rattle.ja_solution.specs.Marks.{AreMarked, ReadsOneOf}
+use Rattle.ja_solution.specs.InnerMarks.{AreMarked, ReadsOneOf}
 use Rattle.ja_solution.proofs.Marking.{marked_none, marked_then}
 use Rattle.ja_solution.proofs.state.mark_fields.Goals as goal
 
@@ -16,8 +15,8 @@ loop-field-preserved c =
     let i = c.loop-field.field-index in
     let y = get_or xs i 0 in
     marked_then c.args.dirty.now.items c.loop-field.dirty.items c.mark_list.new.dirty.items (ReadsOneOf c.args.readers.now (take i xs)) (InList c.args.readers.now y) (ReadsOneOf c.args.readers.now (take (i + 1) xs))
-        c.loop-field.invariant c.mark_list.ensures
-        (λ k p. ⊎_elim (λ old. inl (p.0, old, p.2)) (λ new. inr (subst (λ f. InList c.args.readers.now f k) new p.2)) ((taken_more xs i y p.0 c.loop-field-test.true (sym (get_or_default xs i y 0 c.loop-field-test.true))).1 p.1))
+    c.loop-field.invariant c.mark_list.ensures
+    (λ k p. ⊎_elim (λ old. inl (p.0, old, p.2)) (λ new. inr (subst (λ f. InList c.args.readers.now f k) new p.2)) ((taken_more xs i y p.0 c.loop-field-test.true (sym (get_or_default xs i y 0 c.loop-field-test.true))).1 p.1))
 
 pub returns : goal.returns
 returns c =

@@ -1,5 +1,5 @@
 use Rattle.std.specs.Prelude.{take}
-use Rattle.ja_solution.specs.Marks.{AreMarked, ReadsOneOf}
+use Rattle.ja_solution.specs.InnerMarks.{AreMarked, ReadsOneOf}
 use Rattle.ja_solution.proofs.state.mark_fields.Given as goal
 
 abbrev pub invariant-loop-field : goal.invariant-loop-field

@@ -1,4 +1,4 @@
-use Rattle.std.proofs.Common.{◌≡◌, false, refl}
+use Rattle.std.proofs.Common.{false, refl}
 use Rattle.std.specs.Vec.{with_item}
 use Rattle.ja_solution.specs.Nodes.{problem_of}
 use Rattle.ja_solution.proofs.Flagged.{settled_state}

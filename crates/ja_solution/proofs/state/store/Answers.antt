@@ -1,7 +1,7 @@
-use Rattle.std.proofs.Common.{◌≡◌, ◌<◌, ℕ, List, true, refl, sym, ap, ◌∙◌, subst, arith}
+use Rattle.std.proofs.Common.{ℕ, List, true, refl, ◌∙◌, subst, arith}
 use Rattle.std.specs.Vec.{with_item}
 use Rattle.ja_ir.specs.declared.entry.Entry.{Entry}
-use Rattle.ja_solution.specs.Marks.{AreMarked, ReadsStored}
+use Rattle.ja_solution.specs.InnerMarks.{AreMarked, ReadsStored}
 use Rattle.ja_solution.proofs.Flagged.{stored_state}
 use Rattle.ja_solution.proofs.state.store.Goals as goal
 

@@ -1,4 +1,4 @@
-use Rattle.std.proofs.Common.{◌≡◌, ◌<◌, true, refl, arith}
+use Rattle.std.proofs.Common.{true, refl, arith}
 use Rattle.std.specs.Vec.{with_item}
 use Rattle.ja_solution.proofs.Flagged.{warned_state}
 use Rattle.ja_solution.proofs.state.warn.Goals as goal
