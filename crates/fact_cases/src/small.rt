@@ -11,38 +11,7 @@ use std::alloc::Global;
 /// What comes of the lines of a text that ask for something, each behind the line.
 pub fn small_text(alloc: Global, text: &str) -> Result<String, Memory> {
     let mut out = String::new(alloc);
-<<<<<<< HEAD
     add_lines(&mut out, alloc, text)?;
-=======
-    for line in text.lines() {
-        let words = words_of(alloc, line)?;
-        match words.as_slice() {
-            ["set", size, number] => {
-                write!(out, "{line}:")?;
-                add_set(&mut out, alloc, number_of(size), number_of(number))?;
-            }
-            ["pairs", size, first, second] => {
-                write!(out, "{line}:")?;
-                let pair = (number_of(first), number_of(second));
-                add_pair(&mut out, alloc, number_of(size), pair)?;
-            }
-            ["rows", columns, first, second] => {
-                write!(out, "{line}:")?;
-                let pair = (number_of(first), number_of(second));
-                add_rows(&mut out, alloc, number_of(columns), pair)?;
-            }
-            ["names", noted @ .., asked] => {
-                write!(out, "{line}:")?;
-                add_numbers(&mut out, alloc, noted, asked)?;
-            }
-            ["params", flags, desc] => {
-                write!(out, "{line}:")?;
-                add_params(&mut out, alloc, flags, desc)?;
-            }
-            _ => (),
-        }
-    }
->>>>>>> keep/share-draft
     Ok(out)
 }
 
@@ -67,6 +36,10 @@ fn add_asked(out: &mut String, alloc: Global, line: &str, words: &[&str]) -> Res
         ["pairs", size, first, second] => {
             let pair = (number_of(first), number_of(second));
             add_pair(out, alloc, line, number_of(size), pair)
+        }
+        ["rows", columns, first, second] => {
+            let pair = (number_of(first), number_of(second));
+            add_rows(out, alloc, line, number_of(columns), pair)
         }
         ["names", noted @ .., asked] => add_numbers(out, alloc, line, noted, asked),
         ["params", flags, desc] => add_params(out, alloc, line, flags, desc),
@@ -110,7 +83,26 @@ fn add_pair(
     Ok(writeln!(out, "{line}: added {}", pairs.add(pair))?)
 }
 
-<<<<<<< HEAD
+/// Adds whether a pair is new in an empty table of two rows, and what joining its row with the other one
+/// says and does.
+fn add_rows(
+    out: &mut String,
+    alloc: Global,
+    line: &str,
+    columns: u32,
+    pair: (u32, u32),
+) -> Result<(), Memory> {
+    let mut table = Matrix::new(alloc, 2, columns)?;
+    let other = Matrix::new(alloc, 2, columns)?;
+    if pair.0 >= 2 || pair.1 >= columns {
+        return Ok(writeln!(out, "{line}: too large")?);
+    }
+    let added = table.add(pair.0, pair.1);
+    let joined = table.join_row(pair.0, &other, 0);
+    let there = table.has(pair.0, pair.1);
+    Ok(writeln!(out, "{line}: added {added}, joined {joined}, there {there}")?)
+}
+
 /// Notes a number for a name, if the word is `NAME=NUMBER`.
 fn note(index: &mut NumbersByName, alloc: Global, word: &str) -> Result<(), Memory> {
     let Some((name, number)) = word.split_once('=') else {
@@ -124,30 +116,6 @@ fn note(index: &mut NumbersByName, alloc: Global, word: &str) -> Result<(), Memo
 fn note_all(index: &mut NumbersByName, alloc: Global, words: &[&str]) -> Result<(), Memory> {
     for word in words {
         note(index, alloc, word)?;
-=======
-/// Adds whether a pair is new in an empty table of two rows, and what joining its row with the other one
-/// says and does.
-fn add_rows(out: &mut String, alloc: Global, columns: u32, pair: (u32, u32)) -> Result<(), Memory> {
-    let mut table = Matrix::new(alloc, 2, columns)?;
-    let other = Matrix::new(alloc, 2, columns)?;
-    if pair.0 >= 2 || pair.1 >= columns {
-        return Ok(writeln!(out, " too large")?);
-    }
-    let added = table.add(pair.0, pair.1);
-    let joined = table.join_row(pair.0, &other, 0);
-    let there = table.has(pair.0, pair.1);
-    Ok(writeln!(out, " added {added}, joined {joined}, there {there}")?)
-}
-
-/// Adds the numbers of a name, where each word `NAME=NUMBER` notes one.
-fn add_numbers(out: &mut String, alloc: Global, noted: &[&str], asked: &str) -> Result<(), Memory> {
-    let mut index = NumbersByName::new(alloc);
-    for word in noted {
-        if let Some((name, number)) = word.split_once('=') {
-            let name = Name::of(alloc, name.as_bytes())?;
-            index.note(alloc, &name, u64::from(number_of(number)))?;
-        }
->>>>>>> keep/share-draft
     }
     Ok(())
 }
