@@ -44,7 +44,9 @@ fn are_few(heads: &[ClassHead], member: Member) -> bool
 pub fn is_numbered(heads: &[ClassHead]) -> bool
     ensures { IsTrue result ↔ IsNumbered heads.now }
 {
-    heads.len() <= MAX_NUMBERED && are_few(heads, Member::Field) && are_few(heads, Member::Method)
+    heads.len() as u64 <= MAX_NUMBERED
+        && are_few(heads, Member::Field)
+        && are_few(heads, Member::Method)
 }
 
 /// For each class the number of the members of a kind that the classes before it declare.
