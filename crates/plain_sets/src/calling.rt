@@ -2,7 +2,7 @@ ghost use Rattle.ja_tokens.specs.Numbers.{AreNumbers};
 
 use crate::facts::{Fact, Facts, Set};
 use crate::library::in_library;
-use crate::moving::Place;
+use crate::moving::{Place, small};
 use ja_base::{Memory, MethodId, Name};
 use ja_ir::{
     CallKind, CallOp, ClassInfo, Instr, MethodAt, Program, arguments, has_receiver, is_dispatched,
@@ -130,7 +130,7 @@ fn enter(
     target: u32,
 ) -> Result<(), Memory> {
     facts.reach(target, 0)?;
-    for k in 0..arguments(call) as u32 {
+    for k in 0..small(arguments(call)) {
         if k > 0 || !is_dispatched(call.kind) {
             facts.carry(
                 place.stack(under.wrapping_add(k)),
@@ -188,7 +188,7 @@ pub fn calls(
 ) -> Result<(), Memory>
     requires { AreNumbers p.now classes.now }
 {
-    let Some(under) = instr.height.checked_sub(arguments(call) as u32) else {
+    let Some(under) = instr.height.checked_sub(small(arguments(call))) else {
         return Ok(());
     };
     find(p, facts, call, place)?;

@@ -1,7 +1,7 @@
 ghost use Rattle.ja_tokens.specs.Numbers.{AreNumbers};
 
 use crate::facts::{Facts, Set};
-use crate::moving::Place;
+use crate::moving::{Place, small};
 use ja_base::{JavaType, Kind, Memory};
 use ja_ir::{CallOp, Instr, Program, RowEffect, RowResult, arguments, has_receiver};
 use ja_tokens::{
@@ -15,7 +15,7 @@ fn sources(call: &CallOp) -> u32 {
     match call.row.effect {
         RowEffect::Quiet => 0,
         RowEffect::Absorb => u32::from(has_receiver(call.kind)),
-        RowEffect::Blend => arguments(call) as u32,
+        RowEffect::Blend => small(arguments(call)),
     }
 }
 
@@ -23,8 +23,8 @@ fn sources(call: &CallOp) -> u32 {
 fn leading(call: &CallOp) -> u32 {
     match call.row.result {
         RowResult::Fresh | RowResult::Argument => 0,
-        RowResult::Member => (arguments(call) as u32).min(1),
-        RowResult::Any => arguments(call) as u32,
+        RowResult::Member => small(arguments(call)).min(1),
+        RowResult::Any => small(arguments(call)),
     }
 }
 
@@ -53,7 +53,7 @@ fn fill(
 ) -> Result<(), Memory> {
     for token in 0..facts.tokens() {
         if facts.is_in(takers, token) {
-            for k in 0..arguments(call) as u32 {
+            for k in 0..small(arguments(call)) {
                 facts.carry(place.stack(under.wrapping_add(k)), Set::Bag { token })?;
             }
         }

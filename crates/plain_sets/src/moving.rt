@@ -3,6 +3,11 @@ use ja_base::Memory;
 use ja_ir::{Instr, Method, Op, Program, pops};
 use ja_tokens::ClassNumbers;
 
+/// A number that is below 2^32, as those of a program are.
+pub fn small(number: u64) -> u32 {
+    u32::try_from(number).unwrap_or(u32::MAX)
+}
+
 /// The place of an instruction.
 #[derive(Clone, Copy)]
 pub struct Place {
@@ -41,7 +46,7 @@ impl Place {
     pub fn at(self, index: u64) -> Place {
         Place {
             method: self.method,
-            index: index as u32,
+            index: small(index),
         }
     }
 }
@@ -81,11 +86,11 @@ fn shuffle(
     from: Place,
     to: Place,
 ) -> Result<(), Memory> {
-    for (j, k) in pushed.iter().enumerate() {
-        facts.carry(
-            from.stack(under.wrapping_add(*k as u32)),
-            to.stack(under.wrapping_add(j as u32)),
-        )?;
+    let mut to_under = under;
+    for k in pushed {
+        let from_under = under.wrapping_add(small(*k));
+        facts.carry(from.stack(from_under), to.stack(to_under))?;
+        to_under = to_under.wrapping_add(1);
     }
     Ok(())
 }
