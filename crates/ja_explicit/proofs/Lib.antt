@@ -5,3 +5,5 @@ pub mod Looping
 pub mod Wholeness
 pub mod Same
 pub mod Adding
+pub mod Handed
+pub mod Sound

@@ -1,5 +1,5 @@
 -- Loops over lists.
-use Rattle.std.proofs.Common.{◌≡◌, ℕ, zero, suc, ◌+◌, ◌-◌, ◌^◌, ◌<◌, ◌≤◌, Bool, true, false, List, [], ◌∷◌, ◌++◌, Some, None, drop, take, refl, sym, ap, subst, ◌∙◌, arith, append_assoc, append-nil, pow_mono}
+use Rattle.std.proofs.Common.{◌≡◌, ℕ, zero, suc, ◌+◌, ◌-◌, ◌^◌, ◌<◌, ◌≤◌, Bool, true, false, List, [], ◌∷◌, ◌++◌, Some, None, drop, take, refl, sym, ap, subst, ◌∙◌, arith, append_assoc, append-nil, pow_mono, map, get_or, drop-cons}
 use Rattle.std.specs.Prelude.{slice_get, slice_index_or, length, ◌||◌}
 use Rattle.std.proofs.lemmas.Option.{same_Some}
 use Rattle.ja_facts.specs.Formulas.{any_below}
@@ -77,3 +77,13 @@ taken_all [] zero le = refl
 taken_all [] (suc k) le = refl
 taken_all (x ∷ xs) zero le = absurd (omega (arith, le))
 taken_all (x ∷ xs) (suc k) le = ap (λ t. x ∷ t) (taken_all xs k (omega (arith, le)))
+
+-- one more flag
+pub map_more : {A B : Type 0} (g : A → B) (xs : List A) (k : ℕ) (d : A) (told new all : List B) → k < length xs → new ≡ told ++ g (get_or xs k d) ∷ [] → told ++ map g (drop k xs) ≡ all → new ++ map g (drop (k + 1) xs) ≡ all
+map_more {A} {B} g xs k d told new all lt is before =
+    let rest : List B = map g (drop (k + 1) xs) in
+    let one : drop k xs ≡ get_or xs k d ∷ drop (k + 1) xs = drop-cons xs k d lt ∙ ap (λ (n : ℕ). get_or xs k d ∷ drop n xs) (after k) in
+    ap (λ (t : List B). t ++ rest) is ∙ append_assoc told (g (get_or xs k d) ∷ []) rest ∙ ap (λ (ys : List A). told ++ map g ys) (sym one) ∙ before
+  where
+    after : (n : ℕ) → suc n ≡ n + 1
+    after n = omega arith
