@@ -111,6 +111,8 @@ module _ (callee : Method) (call : CallOp) (under : ℕ) (b a : Assignment) (cou
               let parts = and_parts (nat_eq (param_local callee r.0) l) (b.slot (argument under r.0)) r.2 in
               subst (λ n. a.slot (InLocal n) ≡ true) (eqb-true (param_local callee r.0) l parts.0) (h.each r.0 r.1 ∙ parts.1)
 
+          same_local : (k l : ℕ) → InLocal l ≡ InLocal (param_local callee k) → param_local callee k ≡ l
+          same_local k l z = sym (cc z)
           from_none : (l : ℕ) → any_below (λ j. nat_eq (param_local callee j) l && b.slot (argument under j)) (arguments call) ≡ false → a.slot (InLocal l) ≡ false
           from_none l f = is_false (a.slot (InLocal l)) (λ t.
               let none : (k : ℕ) → k < arguments call → InLocal l ≡ InLocal (param_local callee k) → ⊥ =
@@ -118,8 +120,6 @@ module _ (callee : Method) (call : CallOp) (under : ℕ) (b a : Assignment) (cou
                     (and_from (nat_eq (param_local callee k) l) (b.slot (argument under k)) (eq-eqb (param_local callee k) l (same_local k l z)) (sym (h.each k lt) ∙ ap a.slot (sym z) ∙ t))) in
               false≢true (sym (h.others (InLocal l) none) ∙ t))
 
-          same_local : (k l : ℕ) → InLocal l ≡ InLocal (param_local callee k) → param_local callee k ≡ l
-          same_local k l z = sym (cc z)
   hands_fit h (OnStack k) = constant_fits false b (a.slot (InStack k)) (h.others (InStack k) (λ j lt z. absurd (cc z)))
   hands_fit h Dirt = constant_fits false b a.dirt h.dirt
   hands_fit h Exc = constant_fits false b a.exc h.exc
@@ -127,28 +127,34 @@ module _ (callee : Method) (call : CallOp) (under : ℕ) (b a : Assignment) (cou
 -- ---- places
 
 module _ (p : Parts) (i t : ℕ) where
+  abbrev Handled : List Handler → ℕ → Type 0
+  Handled handlers j = (h : Handler) × Contains handlers h × (in_range h i ≡ true) × (h.target ≡ j)
+
+  one_handler : (h : Handler) (handlers : List Handler) (j : ℕ) → (Contains (dest_among p i t handlers) (Inside j) → Handled handlers j) → Contains (dest_among p i t (h ∷ handlers)) (Inside j) → Handled (h ∷ handlers) j
+  one_handler h handlers j rest c = by_range (in_range h i) refl c
+    where
+      later : Handled handlers j → Handled (h ∷ handlers) j
+      later r = (r.0, there h handlers r.0 r.1, r.2, r.3)
+
+      first : in_range h i ≡ true → Inside h.target ≡ Inside j → Handled (h ∷ handlers) j
+      first e is = (h, here h handlers, e, cc is)
+
+      by_class : in_range h i ≡ true → (b : Bool) → Contains (if b then Inside h.target ∷ [] else dest_among p i t handlers) (Inside j) → Handled (h ∷ handlers) j
+      by_class e true g = first e (the_one (Inside h.target) (Inside j) g)
+      by_class e false g = later (rest g)
+
+      by_catch : in_range h i ≡ true → (k : Catch) → Contains (dest_at p t h.target k (dest_among p i t handlers)) (Inside j) → Handled (h ∷ handlers) j
+      by_catch e Everything d = first e (the_one (Inside h.target) (Inside j) d)
+      by_catch e (InClass k) d = by_class e (at_or_below p t k.0) d
+      by_catch e InLibrary d = elim (cons_cases (Inside h.target) (dest_among p i t handlers) (Inside j) d) [ inl is ↦ first e is | inr g ↦ later (rest g) ]
+
+      by_range : (b : Bool) → in_range h i ≡ b → Contains (if b then dest_at p t h.target h.catch (dest_among p i t handlers) else dest_among p i t handlers) (Inside j) → Handled (h ∷ handlers) j
+      by_range true e d = by_catch e h.catch d
+      by_range false e d = later (rest d)
+
   pub dest_handler : (handlers : List Handler) (j : ℕ) → Contains (dest_among p i t handlers) (Inside j) → (h : Handler) × Contains handlers h × (in_range h i ≡ true) × (h.target ≡ j)
   dest_handler [] j c = absurd (cc (the_one Outside (Inside j) c))
-  dest_handler (h ∷ handlers) j c = by_range (in_range h i) refl c
-    where
-      later : (handlers' : List Handler) (q : Handler) → (x : Handler) × Contains handlers' x × (in_range x i ≡ true) × (x.target ≡ j) → (x : Handler) × Contains (q ∷ handlers') x × (in_range x i ≡ true) × (x.target ≡ j)
-      later handlers' q r = (r.0, there q handlers' r.0 r.1, r.2, r.3)
-
-      first : (h' : Handler) (handlers' : List Handler) → in_range h' i ≡ true → Inside h'.target ≡ Inside j → (x : Handler) × Contains (h' ∷ handlers') x × (in_range x i ≡ true) × (x.target ≡ j)
-      first h' handlers' e is = (h', here h' handlers', e, cc is)
-
-      by_catch : in_range h i ≡ true → (k : Catch) → Contains (dest_at p t h.target k (dest_among p i t handlers)) (Inside j) → (x : Handler) × Contains (h ∷ handlers) x × (in_range x i ≡ true) × (x.target ≡ j)
-      by_catch e Everything d = first h handlers e (the_one (Inside h.target) (Inside j) d)
-      by_catch e (InClass k) d = by_class (at_or_below p t k.0) d
-        where
-          by_class : (b : Bool) → Contains (if b then Inside h.target ∷ [] else dest_among p i t handlers) (Inside j) → (x : Handler) × Contains (h ∷ handlers) x × (in_range x i ≡ true) × (x.target ≡ j)
-          by_class true g = first h handlers e (the_one (Inside h.target) (Inside j) g)
-          by_class false g = later handlers h (dest_handler handlers j g)
-      by_catch e InLibrary d = elim (cons_cases (Inside h.target) (dest_among p i t handlers) (Inside j) d) [ inl is ↦ first h handlers e is | inr g ↦ later handlers h (dest_handler handlers j g) ]
-
-      by_range : (b : Bool) → in_range h i ≡ b → Contains (if b then dest_at p t h.target h.catch (dest_among p i t handlers) else dest_among p i t handlers) (Inside j) → (x : Handler) × Contains (h ∷ handlers) x × (in_range x i ≡ true) × (x.target ≡ j)
-      by_range true e d = by_catch e h.catch d
-      by_range false e d = later handlers h (dest_handler handlers j d)
+  dest_handler (h ∷ handlers) j c = one_handler h handlers j (λ d. dest_handler handlers j d) c
 
 -- ---- cells
 

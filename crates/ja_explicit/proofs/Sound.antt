@@ -1,9 +1,8 @@
 -- Whatever follows of facts of the least solution is one of them.
 use Rattle.std.proofs.Common.{◌≡◌, ◌⊎◌, inl, inr, ℕ, zero, suc, ◌+◌, ◌-◌, ◌<◌, ◌≤◌, Bool, true, false, List, [], ◌∷◌, ◌++◌, Some, None, refl, sym, ap, subst, ◌∙◌, arith, length}
 use Rattle.std.specs.Prelude.{◌&&◌, ◌||◌, ◌==◌, not, nat_eq, Contains, Option, slice_get, slice_index_or, if◌then◌else◌}
-use Rattle.std.proofs.lemmas.Bool.{and_parts, or_cases, false≢true, eqb-true, cases_Bool, not-true}
+use Rattle.std.proofs.lemmas.Bool.{and_parts, or_cases, false≢true, eqb-true, cases_Bool, not-true, ltb-false}
 use Rattle.std.proofs.lemmas.Option.{same_Some}
-use Rattle.std.proofs.lemmas.List.Elements.{Contains-append_right}
 use Rattle.ja_base.specs.declared.java_type.Kind.{Kind}
 use Rattle.ja_base.specs.declared.java_type.Kind.TheVariants.{P1, P2, R, T}
 use Rattle.ja_base.specs.declared.id.MethodId.{MethodId}
@@ -13,7 +12,7 @@ use Rattle.ja_ir.specs.declared.method.Instr.{Instr}
 use Rattle.ja_ir.specs.declared.op.CallOp.{CallOp}
 use Rattle.ja_ir.specs.declared.op.Op.{Op}
 use Rattle.ja_ir.specs.declared.op.Op.TheVariants.{ArrStore, Return, GetStatic, PutStatic, GetField, PutField, Call}
-use Rattle.ja_ir.specs.Lookup.{OpAt, Leads, instr_at, code_of, HasCode}
+use Rattle.ja_ir.specs.Lookup.{OpAt, Leads, instr_at, code_of, HasCode, is_member}
 use Rattle.ja_ir.specs.Operations.{arguments, pops, result_count, height_after, FindsOperands}
 use Rattle.ja_ir.specs.Whole.{IsWhole, NamesOperands}
 use Rattle.ja_ir.specs.Handlers.{Place, Inside, Outside, dest, dest_among, handlers_of}
@@ -25,14 +24,20 @@ use Rattle.ja_facts.specs.ClassTables.{token_count, thrown_set}
 use Rattle.ja_facts.specs.FactTables.{targets_at, takers_at, cell_count}
 use Rattle.ja_facts.specs.ClassSets.{InThrown, CallsMethod, Takes}
 use Rattle.ja_facts.specs.Crossings.{has_result}
-use Rattle.ja_facts.specs.Slots.{Slot, Local, OnStack, CallAt}
+use Rattle.ja_facts.specs.Slots.{Slot, Local, OnStack, CallAt, argument}
 use Rattle.ja_facts.specs.Held.{Cell, OfField, OfBag, FieldHolds}
 use Rattle.ja_facts.specs.Formulas.{Assignment, Summary, IsReturn, IsCallThrown, IsNormalEnd, IsExceptionalEnd, put_in, any_below}
 use Rattle.ja_facts.specs.Equations as equations
-use Rattle.ja_facts.specs.Equations.{Fact, Rule, itself, held, Calls, Answers, Reads, reads_field, reads_static, IsCaught, thrown_summary, return_summary, Stores, steps, reads_stored_field, call_resumes, initializer_resumes, caught, callee_caught, leaves, callee_leaves, method_returns, method_ends, stored, taken, called, initialized, begins}
+use Rattle.ja_facts.specs.Equations.{Fact, Rule, HandsOver, itself, held, Calls, Answers, Reads, reads_field, reads_static, IsCaught, thrown_summary, return_summary, Stores, steps, reads_stored_field, call_resumes, initializer_resumes, caught, callee_caught, leaves, callee_leaves, method_returns, method_ends, stored, taken, called, initialized, begins}
 use Rattle.ja_facts.proofs.LeastLaws.{Least-is_solution}
 use Rattle.ja_work.specs.declared.way.Way.{Way}
 use Rattle.ja_work.specs.declared.way.Way.TheVariants.{Clean, Thrown, InLibrary}
+use Rattle.ja_work.specs.declared.clause.Spot.{Spot}
+use Rattle.ja_work.specs.declared.clause.Spot.TheVariants.{Local as InLocal, OnStack as InStack, Dirt, Exc}
+use Rattle.ja_work.specs.Clauses.{never, constant}
+use Rattle.ja_order.proofs.Locals.{local-below}
+use Rattle.ja_ir.specs.Params.{param_local, param_count, param_types}
+use Rattle.ja_base.specs.declared.java_type.JavaType.{JavaType}
 use Rattle.ja_work.specs.Ends.{Tests, may_go_on, may_end, normal_clauses, exceptional_clauses, return_clauses, throw_clauses, caught_clauses}
 use Rattle.ja_work.specs.Told.{told, tests_of, affected_of, is_empty}
 use Rattle.ja_work.proofs.Telling.{tests_told, affected_told}
@@ -47,11 +52,11 @@ use Rattle.ja_explicit.specs.InnerWords.{says, next_words, handed_clauses}
 use Rattle.ja_explicit.specs.InnerSteps as code
 use Rattle.ja_explicit.specs.InnerSteps.{Standing, Passage, has, stores, read_field, read_slot, is_readable, init_passage, call_passage}
 use Rattle.ja_explicit.specs.InnerRounds.{says_in, says_of, cell_of, meant, IsSound}
-use Rattle.ja_explicit.proofs.Worded.{the_one, from_over, word_all, IsQuiet}
-use Rattle.ja_explicit.proofs.Quiet.{idle_quiet, never_quiet, normal_idle, exceptional_idle, return_idle, throw_idle, caught_idle}
-use Rattle.ja_explicit.proofs.Lists.{AllOf, all_none, all_cons, all_one, all_both, all_if, all_over, all_at_all, all_lands_all, all_ends, from_if, from_passing, nothing_in, cons_cases}
+use Rattle.ja_explicit.proofs.Worded.{the_one, from_over, word_all, IsQuiet, is_inside}
+use Rattle.ja_explicit.proofs.Quiet.{is_false, idle_quiet, never_quiet, normal_idle, exceptional_idle, return_idle, throw_idle, caught_idle}
+use Rattle.ja_explicit.proofs.Lists.{AllOf, all_none, all_cons, all_one, all_both, all_if, all_over, all_at_all, all_lands_all, all_ends, from_if, from_passing, nothing_in, cons_cases, here, there as there_in}
 use Rattle.ja_explicit.proofs.Same.{has_item}
-use Rattle.ja_explicit.proofs.Wholeness.{runs_there, names_there, next_there, handler_there}
+use Rattle.ja_explicit.proofs.Wholeness.{starts_there, runs_there, names_there, next_there, handler_there}
 use Rattle.ja_explicit.proofs.Handed.{says_nothing, fit_hands, dest_handler, field_cell, bag_cell, cell_known}
 
 -- what an operation reads of a field, and where that is then
@@ -170,14 +175,14 @@ module _ (p : Parts) (f : Facts) (whole : IsWhole p) (given : AreGiven p f) wher
                 | inr nay ↦ clean (λ g' r reads. ap (says method w).slot (reads_known reads).1 ∙ nay)
                 | inl yea ↦ (elim (or_cases (not ((says method w).slot (read_slot instr.op instr.height))) (code.answers p f items g) h) [
                     | inl n ↦ absurd (false≢true (sym (not-true ((says method w).slot (read_slot instr.op instr.height)) n) ∙ yea))
-                    | inr is ↦ by_answer (answer_told g (names_field instr.op g e (names_there p whole m method found i instr at).operands) is)
+                    | inr is ↦ by_answer yea (answer_told g (names_field instr.op g e (names_there p whole m method found i instr at).operands) is)
                   ])
               ]
                 where
-                  by_answer : (c : Cell) × Answers (told p f) g c × Taints p f (equations.Stored c) → Taints p f (equations.At m j entry (says method w))
-                  by_answer r =
+                  by_answer : (says method w).slot (read_slot instr.op instr.height) ≡ true → (c : Cell) × Answers (told p f) g c × Taints p f (equations.Stored c) → Taints p f (equations.At m j entry (says method w))
+                  by_answer yea r =
                       solves (equations.At m i entry before ∷ equations.Stored r.0 ∷ []) (equations.At m j entry (says method w))
-                      (reads_stored_field op_at (leads j jn) end (known_reads instr.op instr.height g takes_le e) yea r.1) (now, r.2, tt)
+                      (reads_stored_field op_at (leads j jn) end (known_reads instr.op instr.height g takes_le e) yea r.1) (now, (r.2, tt))
 
       -- ---- exceptions
 
@@ -257,14 +262,113 @@ module _ (p : Parts) (f : Facts) (whole : IsWhole p) (given : AreGiven p f) wher
             subst (λ j. Told (At m j a v)) (the_one i k kn)
             (to_told i v (solves (equations.At m i entry before ∷ equations.Normal n (says_of p n 0) summary ∷ []) (equations.At m i entry (says method v))
               (initializer_resumes op_at init (says_nothing p n) (fit_return (told p f) m i n 0 instr.height (affected_of p f m i n 0 instr.height) (affected_told p f m i n 0 instr.height) before false summary (says method v) all))
-              (now, sound (Normal n 0 r d) yn, tt)))))
+              (now, (sound (Normal n 0 r d) yn, tt))))))
           (λ d e yn. all_lands_all s Told [] (next_words method (throw_clauses (affected_of p f m i n 0 instr.height) (record { result = false; dirt = d; exc = e })) before) (λ place w pn wn. nothing_in place pn))
 
       inits_told : (inits : List MethodId) → ((n : MethodId) → Contains inits n → InitAt p m i n.0) → AllOf Told (code.initializes p f items s i instr.height inits)
       inits_told [] h = all_none Told
       inits_told (n ∷ inits) h =
           all_both Told (code.goes_through items s (init_passage p f m i instr.height n.0)) (code.initializes p f items s i instr.height inits)
-          (init_told n.0 (h n (0, omega arith, refl))) (inits_told inits (λ k inside. h k (code_there n inits k inside)))
-        where
-          code_there : (x : MethodId) (xs : List MethodId) (y : MethodId) → Contains xs y → Contains (x ∷ xs) y
-          code_there x xs y k = Contains-append_right (x ∷ []) xs y k
+          (init_told n.0 (h n (here n inits))) (inits_told inits (λ k inside. h k (there_in n inits k inside)))
+
+      -- ---- calls
+
+      module _ (call : CallOp) (is : instr.op ≡ Call call) (n : ℕ) (listed : Contains (targets_at f.graph m i).methods n) (callee : Method) (there : slice_get p.methods n ≡ Some callee) (has_code : HasCode callee) where
+        abbrev under : ℕ
+        under = instr.height - arguments call
+
+        called_at : OpAt p m i (Call call) instr.height
+        called_at = record { instr = instr; found = at_m; is_op = is; is_height = refl }
+
+        enough : arguments call ≤ instr.height
+        enough = subst (λ (o : Op). pops o ≤ instr.height) is takes_le
+
+        call_at : CallAt p m i call under
+        call_at = record { height = instr.height; at = called_at; under_is = let e = enough in omega (arith, e) }
+
+        counted : param_count callee ≡ arguments call
+        counted =
+            let target = given.graph.each m i n instr.height call called_at listed in
+            ap param_count (same_Some callee target.method (sym there ∙ target.found)) ∙ target.is_count
+
+        hands_quiet : IsQuiet callee (handed_clauses callee (arguments call) under before) before
+        hands_quiet = never_quiet callee (handed_clauses callee (arguments call) under before) before outside
+          where
+            outside : (x : Spot) → is_inside callee x ≡ false → handed_clauses callee (arguments call) under before x ≡ never
+            outside (InLocal l) e = ap constant (is_false (any_below (λ k. nat_eq (param_local callee k) l && before.slot (argument under k)) (arguments call)) (λ t.
+                let r = any_some (λ k. nat_eq (param_local callee k) l && before.slot (argument under k)) (arguments call) t in
+                let parts = and_parts (nat_eq (param_local callee r.0) l) (before.slot (argument under r.0)) r.2 in
+                let low = local-below (is_member callee.flags) (param_types callee) r.0 (omega (arith, r.1, counted)) in
+                let room = (starts_there p whole n callee there has_code).room in
+                let high = ltb-false l callee.locals e in
+                let same = eqb-true (param_local callee r.0) l parts.0 in
+                absurd (omega (arith, low, room, high, same))))
+            outside (InStack k) e = refl
+            outside Dirt e = refl
+            outside Exc e = refl
+
+        calls_of : (c : ℕ) → Contains (next_words callee (handed_clauses callee (arguments call) under before) before) c → Calls p (told p f) m i n call under before (says_of p n c)
+        calls_of c cn = record {
+          at = call_at;
+          goes = inr (record { listed = listed; method = callee; found = there; code = has_code });
+          method = callee;
+          found = there;
+          hands = subst (λ x. HandsOver callee call under before x) (sym (says_found n callee there c))
+            (fit_hands callee call under before (says callee c) counted (word_all callee (handed_clauses callee (arguments call) under before) before hands_quiet c cn));
+        }
+
+        answer_room : (j : ℕ) → Contains instr.next j → has_result call.result ≡ true → under < method.stack
+        answer_room j h e = by_result call.result refl e (subst (λ (o : Op). height_after o instr.height ≤ method.stack) is (after_room j h))
+          where
+            by_result : (o : Option JavaType) → call.result ≡ o → has_result call.result ≡ true → height_after (Call call) instr.height ≤ method.stack → under < method.stack
+            by_result None none e le = absurd (false≢true (sym (ap has_result none) ∙ e))
+            by_result (Some type) some e le = let one : result_count call.result ≡ 1 = ap result_count some in omega (arith, one, le)
+
+        call_told : (c : ℕ) → Contains (next_words callee (handed_clauses callee (arguments call) under before) before) c → AllOf Told (code.goes_through items s (call_passage p f m i instr.next (code.places_of p f m i method) call under n c))
+        call_told c cn = through_told (call_passage p f m i instr.next (code.places_of p f m i method) call under n c)
+            (solves (equations.At m i entry before ∷ []) (equations.Context n (says_of p n c)) (called (calls_of c cn)) (now, tt))
+            (λ r d yn. all_at_all m a Told instr.next (next_words method (return_clauses (affected_of p f m i n (arguments call) under) under (has_result call.result) (record { result = r; dirt = d; exc = false })) before) (λ j v jn vn.
+              let summary : Summary = record { result = r; dirt = d; exc = false } in
+              let clauses = return_clauses (affected_of p f m i n (arguments call) under) under (has_result call.result) summary in
+              let all = word_all method clauses before (idle_quiet method clauses b (return_idle p f m i method found n (arguments call) under (has_result call.result) summary (answer_room j jn))) v vn in
+              to_told j v (solves (equations.At m i entry before ∷ equations.Normal n (says_of p n c) summary ∷ []) (equations.At m j entry (says method v))
+                (call_resumes (calls_of c cn) (leads j jn) (fit_return (told p f) m i n (arguments call) under (affected_of p f m i n (arguments call) under) (affected_told p f m i n (arguments call) under) before (has_result call.result) summary (says method v) all))
+                (now, (sound (Normal n c r d) yn, tt)))))
+            (λ d x yn. all_lands_all s Told (code.places_of p f m i method) (next_words method (throw_clauses (affected_of p f m i n (arguments call) under) (record { result = false; dirt = d; exc = x })) before) (λ place w pn wn.
+              let summary : Summary = record { result = false; dirt = d; exc = x } in
+              let clauses = throw_clauses (affected_of p f m i n (arguments call) under) summary in
+              let all = word_all method clauses before (idle_quiet method clauses b (throw_idle p f m i method found n (arguments call) under summary)) w wn in
+              let end = fit_throw (told p f) m i n (arguments call) under (affected_of p f m i n (arguments call) under) (affected_told p f m i n (arguments call) under) before summary (says method w) all in
+              lands_told w
+              (λ t j after thrown to is'. solves (equations.At m i entry before ∷ equations.Threw n (says_of p n c) summary ∷ []) (equations.At m j entry after) (callee_caught (calls_of c cn) thrown to end is') (now, (sound (Threw n c d x) yn, tt)))
+              (λ t thrown to. solves (equations.At m i entry before ∷ equations.Threw n (says_of p n c) summary ∷ []) (equations.Threw m entry (thrown_summary (says method w))) (callee_leaves (calls_of c cn) thrown to end) (now, (sound (Threw n c d x) yn, tt)))
+              place pn))
+
+        call_each : (cs : List ℕ) → ((c : ℕ) → Contains cs c → Contains (next_words callee (handed_clauses callee (arguments call) under before) before) c)
+            → AllOf Told (code.calls_with p f items s i instr.next (code.places_of p f m i method) call under n cs)
+        call_each [] h = all_none Told
+        call_each (c ∷ cs) h =
+            all_both Told (code.goes_through items s (call_passage p f m i instr.next (code.places_of p f m i method) call under n c)) (code.calls_with p f items s i instr.next (code.places_of p f m i method) call under n cs)
+            (call_told c (h c (here c cs))) (call_each cs (λ x inside. h x (there_in c cs x inside)))
+
+      module _ (call : CallOp) (is : instr.op ≡ Call call) where
+        target_told : (n : ℕ) → Contains (targets_at f.graph m i).methods n → (o : Option Method) → slice_get p.methods n ≡ o
+            → AllOf Told (code.calls_method p f items s i instr.next (code.places_of p f m i method) call (instr.height - arguments call) n o)
+        target_told n listed None e = all_none Told
+        target_told n listed (Some callee) e = by_code (is_empty callee.code) refl
+          where
+            has_code : (xs : List Instr) → is_empty xs ≡ false → 0 < length xs
+            has_code [] h = absurd (false≢true (sym h))
+            has_code (x ∷ xs) h = omega arith
+
+            by_code : (none : Bool) → is_empty callee.code ≡ none
+                → AllOf Told (if none then [] else code.calls_with p f items s i instr.next (code.places_of p f m i method) call (instr.height - arguments call) n (next_words callee (handed_clauses callee (arguments call) (instr.height - arguments call) before) before))
+            by_code true h = all_none Told
+            by_code false h = call_each call is n listed callee e (has_code callee.code h) (next_words callee (handed_clauses callee (arguments call) (instr.height - arguments call) before) before) (λ c inside. inside)
+
+        targets_told : (ns : List ℕ) → ((n : ℕ) → Contains ns n → Contains (targets_at f.graph m i).methods n)
+            → AllOf Told (code.calls_each p f items s i instr.next (code.places_of p f m i method) call (instr.height - arguments call) ns)
+        targets_told [] h = all_none Told
+        targets_told (n ∷ ns) h =
+            all_both Told (code.calls_method p f items s i instr.next (code.places_of p f m i method) call (instr.height - arguments call) n (slice_get p.methods n)) (code.calls_each p f items s i instr.next (code.places_of p f m i method) call (instr.height - arguments call) ns)
+            (target_told n (h n (here n ns)) (slice_get p.methods n) refl) (targets_told ns (λ x inside. h x (there_in n ns x inside)))
