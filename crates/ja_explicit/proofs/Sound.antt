@@ -28,7 +28,7 @@ use Rattle.ja_facts.specs.Slots.{Slot, Local, OnStack, CallAt, argument}
 use Rattle.ja_facts.specs.Held.{Cell, OfField, OfBag, FieldHolds}
 use Rattle.ja_facts.specs.Formulas.{Assignment, Summary, IsReturn, IsCallThrown, IsNormalEnd, IsExceptionalEnd, put_in, any_below}
 use Rattle.ja_facts.specs.Equations as equations
-use Rattle.ja_facts.specs.Equations.{Fact, Rule, HandsOver, itself, held, Calls, Answers, Reads, reads_field, reads_static, IsCaught, thrown_summary, return_summary, Stores, steps, reads_stored_field, call_resumes, initializer_resumes, caught, callee_caught, leaves, callee_leaves, method_returns, method_ends, stored, taken, called, initialized, begins}
+use Rattle.ja_facts.specs.Equations.{Fact, Rule, stores_field, stores_static, stores_reference, stores_word, stores_pair, HandsOver, itself, held, Calls, Answers, Reads, reads_field, reads_static, IsCaught, thrown_summary, return_summary, Stores, steps, reads_stored_field, call_resumes, initializer_resumes, caught, callee_caught, leaves, callee_leaves, method_returns, method_ends, stored, taken, called, initialized, begins}
 use Rattle.ja_facts.proofs.LeastLaws.{Least-is_solution}
 use Rattle.ja_work.specs.declared.way.Way.{Way}
 use Rattle.ja_work.specs.declared.way.Way.TheVariants.{Clean, Thrown, InLibrary}
@@ -372,3 +372,111 @@ module _ (p : Parts) (f : Facts) (whole : IsWhole p) (given : AreGiven p f) wher
         targets_told (n ∷ ns) h =
             all_both Told (code.calls_method p f items s i instr.next (code.places_of p f m i method) call (instr.height - arguments call) n (slice_get p.methods n)) (code.calls_each p f items s i instr.next (code.places_of p f m i method) call (instr.height - arguments call) ns)
             (target_told n (h n (here n ns)) (slice_get p.methods n) refl) (targets_told ns (λ x inside. h x (there_in n ns x inside)))
+
+      calls_told : AllOf Told (code.calls p f items s i instr.next (code.places_of p f m i method) instr.op instr.height)
+      calls_told = go instr.op refl
+        where
+          go : (op : Op) → instr.op ≡ op → AllOf Told (code.calls p f items s i instr.next (code.places_of p f m i method) op instr.height)
+          go (Call call) is = targets_told call is (targets_at f.graph m i).methods (λ n inside. inside)
+          go _ is = all_none Told
+
+      -- ---- returns, writes and library calls
+
+      op_is : (op : Op) → instr.op ≡ op → OpAt p m i op instr.height
+      op_is op is = record { instr = instr; found = at_m; is_op = is; is_height = refl }
+
+      returns_told : AllOf Told (code.returns s instr.op instr.height)
+      returns_told = go instr.op refl takes_le
+        where
+          go : (op : Op) → instr.op ≡ op → pops op ≤ instr.height → AllOf Told (code.returns s op instr.height)
+          go (Return (Some kind)) is le =
+              let e : suc (instr.height - 1) ≡ instr.height = omega (arith, le) in
+              all_one Told (Normal m a (before.slot (OnStack (instr.height - 1))) before.dirt)
+              (solves (equations.At m i entry before ∷ []) (equations.Normal m entry (return_summary (before.slot (OnStack (instr.height - 1))) before))
+                (method_returns (subst (λ h. OpAt p m i (Return (Some kind)) h) (sym e) (op_is (Return (Some kind)) is))) (now, tt))
+          go (Return None) is le =
+              all_one Told (Normal m a false before.dirt)
+              (solves (equations.At m i entry before ∷ []) (equations.Normal m entry (return_summary false before)) (method_ends (op_is (Return None) is)) (now, tt))
+          go _ is le = all_none Told
+
+      cell_stored : (op : Op) (n : ℕ) → instr.op ≡ op → pops op ≤ instr.height → NamesOperands p op → code.stored_cell p op ≡ Some n → before.slot (OnStack (instr.height - 1)) ≡ true → Told (Stored n)
+      cell_stored op n is le names e t = by_op op is le names e
+        where
+          put : (o : Op) (c : Cell) → instr.op ≡ o → Stores p o instr.height c (OnStack (instr.height - 1)) → Taints p f (equations.Stored c)
+          put o c same w = solves (equations.At m i entry before ∷ []) (equations.Stored c) (stored (op_is o same) w t) (now, tt)
+
+          to_field : (g : ℕ) → g < length p.fields → Some g ≡ Some n → Taints p f (equations.Stored (OfField g)) → Told (Stored n)
+          to_field g lt same h = subst (λ k. Taints p f (equations.Stored (cell_of p k))) (same_Some g n same) (subst (λ c. Taints p f (equations.Stored c)) (sym (field_cell p g lt)) h)
+
+          to_bag : (u : ℕ) → Some (length p.fields + u) ≡ Some n → Taints p f (equations.Stored (OfBag u)) → Told (Stored n)
+          to_bag u same h = subst (λ k. Taints p f (equations.Stored (cell_of p k))) (same_Some (length p.fields + u) n same) (subst (λ c. Taints p f (equations.Stored c)) (sym (bag_cell p u)) h)
+
+          by_op : (o : Op) → instr.op ≡ o → pops o ≤ instr.height → NamesOperands p o → code.stored_cell p o ≡ Some n → Told (Stored n)
+          by_op (PutField g) same low there' here' =
+              let k : ℕ = instr.height - 2 in
+              let two : instr.height ≡ suc (suc k) = omega (arith, low) in
+              let top : suc k ≡ instr.height - 1 = omega (arith, low) in
+              to_field g.0 there' here' (put (PutField g) (OfField g.0) same (subst (λ z. Stores p (PutField g) instr.height (OfField g.0) (OnStack z)) top (stores_field two)))
+          by_op (PutStatic g) same low there' here' =
+              let one : instr.height ≡ suc (instr.height - 1) = omega (arith, low) in
+              to_field g.0 there' here' (put (PutStatic g) (OfField g.0) same (stores_static one))
+          by_op (ArrStore R) same low there' here' =
+              let k : ℕ = instr.height - 3 in
+              let three : instr.height ≡ suc (suc (suc k)) = omega (arith, low) in
+              let top : suc (suc k) ≡ instr.height - 1 = omega (arith, low) in
+              to_bag (rarr_token p) here' (put (ArrStore R) (OfBag (rarr_token p)) same (subst (λ z. Stores p (ArrStore R) instr.height (OfBag (rarr_token p)) (OnStack z)) top (stores_reference three)))
+          by_op (ArrStore P1) same low there' here' =
+              let k : ℕ = instr.height - 3 in
+              let three : instr.height ≡ suc (suc (suc k)) = omega (arith, low) in
+              let top : suc (suc k) ≡ instr.height - 1 = omega (arith, low) in
+              to_bag (parr_token p) here' (put (ArrStore P1) (OfBag (parr_token p)) same (subst (λ z. Stores p (ArrStore P1) instr.height (OfBag (parr_token p)) (OnStack z)) top (stores_word three)))
+          by_op (ArrStore P2) same low there' here' =
+              let k : ℕ = instr.height - 3 in
+              let three : instr.height ≡ suc (suc (suc k)) = omega (arith, low) in
+              let top : suc (suc k) ≡ instr.height - 1 = omega (arith, low) in
+              to_bag (parr_token p) here' (put (ArrStore P2) (OfBag (parr_token p)) same (subst (λ z. Stores p (ArrStore P2) instr.height (OfBag (parr_token p)) (OnStack z)) top (stores_pair three)))
+          by_op (ArrStore T) same low there' here' = absurd (cc here')
+          by_op _ same low there' here' = absurd (cc here')
+
+      writes_told : AllOf Told (code.writes p s instr.op instr.height)
+      writes_told = by_cell (code.stored_cell p instr.op) refl
+        where
+          by_cell : (o : Option ℕ) → code.stored_cell p instr.op ≡ o → AllOf Told (code.stored_if o (before.slot (OnStack (instr.height - 1))))
+          by_cell None e = all_none Told
+          by_cell (Some n) e = all_if Told (before.slot (OnStack (instr.height - 1))) (Stored n ∷ []) (λ t.
+              all_one Told (Stored n) (cell_stored instr.op n refl takes_le (names_there p whole m method found i instr at).operands e t))
+
+      takes_told : AllOf Told (code.takes p f s i instr.op instr.height)
+      takes_told = go instr.op refl takes_le
+        where
+          go : (op : Op) → instr.op ≡ op → pops op ≤ instr.height → AllOf Told (code.takes p f s i op instr.height)
+          go (Call call) is le = all_if Told (put_in before call (instr.height - arguments call)) (code.takes_all p (takers_at f.graph m i)) (λ t.
+              all_over Told (code.takes_by p (takers_at f.graph m i)) 0 (token_count p) (λ k lt.
+                all_if Told (slice_index_or (takers_at f.graph m i) k false) (Stored (code.bag p k) ∷ []) (λ taker.
+                  all_one Told (Stored (code.bag p k)) (subst (λ c. Taints p f (equations.Stored c)) (sym (bag_cell p k))
+                    (solves (equations.At m i entry before ∷ []) (equations.Stored (OfBag k))
+                      (taken (record { height = instr.height; at = op_is (Call call) is; under_is = omega (arith, le) }) (inr taker) t) (now, tt))))))
+          go _ is le = all_none Told
+
+      runs_told : AllOf Told (code.runs p f items s i instr)
+      runs_told =
+          all_both Told _ _ goes_told
+          (all_both Told _ _ throws_told
+            (all_both Told _ _ (inits_told (inits_of p instr.op) (λ n inside. record { instr = instr; found = at_m; listed = inside }))
+              (all_both Told _ _ calls_told
+                (all_both Told _ _ returns_told (all_both Told _ _ writes_told takes_told)))))
+
+    pub follows_told : (x : Item) → Contains items x → AllOf Told (code.follows p f items x)
+    follows_told (Context m a) h = all_one Told (At m 0 a a) (solves (equations.Context m (says_of p m a) ∷ []) (equations.At m 0 (says_of p m a) (says_of p m a)) begins (sound (Context m a) h, tt))
+    follows_told (At m i a b) h = by_method (slice_get p.methods m) refl
+      where
+        by_method : (o : Option Method) → slice_get p.methods m ≡ o → AllOf Told (code.runs_in p f items m i a b o)
+        by_method None e = all_none Told
+        by_method (Some method) e = by_instr (slice_get method.code i) refl
+          where
+            by_instr : (o : Option Instr) → slice_get method.code i ≡ o → AllOf Told (code.runs_reached p f items (record { method = method; m = m; a = a; b = b }) i o)
+            by_instr None d = all_none Told
+            by_instr (Some instr) d = all_if Told instr.reached (code.runs p f items (record { method = method; m = m; a = a; b = b }) i instr) (λ reached. runs_told m i a b method e instr d reached (sound (At m i a b) h))
+    follows_told (Normal m a r d) h = all_none Told
+    follows_told (Threw m a d e) h = all_none Told
+    follows_told (Stored c) h = all_none Told
