@@ -6,4 +6,7 @@ pub mod Wholeness
 pub mod Same
 pub mod Adding
 pub mod Handed
+pub mod Handing
 pub mod Sound
+pub mod Starting
+pub mod Complete

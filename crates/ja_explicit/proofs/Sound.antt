@@ -51,12 +51,13 @@ use Rattle.ja_explicit.specs.declared.item.Item.TheVariants.{Context, At, Normal
 use Rattle.ja_explicit.specs.InnerWords.{says, next_words, handed_clauses}
 use Rattle.ja_explicit.specs.InnerSteps as code
 use Rattle.ja_explicit.specs.InnerSteps.{Standing, Passage, has, stores, read_field, read_slot, is_readable, init_passage, call_passage}
-use Rattle.ja_explicit.specs.InnerRounds.{says_in, says_of, cell_of, meant, IsSound}
+use Rattle.ja_explicit.specs.InnerRounds.{IsTold, says_in, says_of, cell_of, meant, IsSound}
 use Rattle.ja_explicit.proofs.Worded.{the_one, from_over, word_all, IsQuiet, is_inside}
 use Rattle.ja_explicit.proofs.Quiet.{is_false, idle_quiet, never_quiet, normal_idle, exceptional_idle, return_idle, throw_idle, caught_idle}
 use Rattle.ja_explicit.proofs.Lists.{AllOf, all_none, all_cons, all_one, all_both, all_if, all_over, all_at_all, all_lands_all, all_ends, from_if, from_passing, nothing_in, cons_cases, here, there as there_in}
 use Rattle.ja_explicit.proofs.Same.{has_item}
 use Rattle.ja_explicit.proofs.Wholeness.{starts_there, runs_there, names_there, next_there, handler_there}
+use Rattle.ja_explicit.proofs.Handing.{hands_quiet}
 use Rattle.ja_explicit.proofs.Handed.{says_nothing, fit_hands, dest_handler, field_cell, bag_cell, cell_known}
 
 -- what an operation reads of a field, and where that is then
@@ -70,8 +71,8 @@ known_reads (GetStatic x) height g le e = subst (λ n. Reads (GetStatic x) heigh
 known_reads _ height g le e = absurd (cc e)
 
 module _ (p : Parts) (f : Facts) (whole : IsWhole p) (given : AreGiven p f) where
-  abbrev pub Told : Item → Type 0
-  Told x = Taints p f (meant p x)
+  abbrev Told : Item → Type 0
+  Told x = IsTold p f x
 
   solves : IsSolution (Rule p (told p f)) (Taints p f)
   solves = Least-is_solution (Rule p (told p f))
@@ -291,22 +292,6 @@ module _ (p : Parts) (f : Facts) (whole : IsWhole p) (given : AreGiven p f) wher
             let target = given.graph.each m i n instr.height call called_at listed in
             ap param_count (same_Some callee target.method (sym there ∙ target.found)) ∙ target.is_count
 
-        hands_quiet : IsQuiet callee (handed_clauses callee (arguments call) under before) before
-        hands_quiet = never_quiet callee (handed_clauses callee (arguments call) under before) before outside
-          where
-            outside : (x : Spot) → is_inside callee x ≡ false → handed_clauses callee (arguments call) under before x ≡ never
-            outside (InLocal l) e = ap constant (is_false (any_below (λ k. nat_eq (param_local callee k) l && before.slot (argument under k)) (arguments call)) (λ t.
-                let r = any_some (λ k. nat_eq (param_local callee k) l && before.slot (argument under k)) (arguments call) t in
-                let parts = and_parts (nat_eq (param_local callee r.0) l) (before.slot (argument under r.0)) r.2 in
-                let low = local-below (is_member callee.flags) (param_types callee) r.0 (omega (arith, r.1, counted)) in
-                let room = (starts_there p whole n callee there has_code).room in
-                let high = ltb-false l callee.locals e in
-                let same = eqb-true (param_local callee r.0) l parts.0 in
-                absurd (omega (arith, low, room, high, same))))
-            outside (InStack k) e = refl
-            outside Dirt e = refl
-            outside Exc e = refl
-
         calls_of : (c : ℕ) → Contains (next_words callee (handed_clauses callee (arguments call) under before) before) c → Calls p (told p f) m i n call under before (says_of p n c)
         calls_of c cn = record {
           at = call_at;
@@ -314,7 +299,7 @@ module _ (p : Parts) (f : Facts) (whole : IsWhole p) (given : AreGiven p f) wher
           method = callee;
           found = there;
           hands = subst (λ x. HandsOver callee call under before x) (sym (says_found n callee there c))
-            (fit_hands callee call under before (says callee c) counted (word_all callee (handed_clauses callee (arguments call) under before) before hands_quiet c cn));
+            (fit_hands callee call under before (says callee c) counted (word_all callee (handed_clauses callee (arguments call) under before) before (hands_quiet p whole n callee there has_code call counted under before) c cn));
         }
 
         answer_room : (j : ℕ) → Contains instr.next j → has_result call.result ≡ true → under < method.stack

@@ -41,6 +41,10 @@ meant p (Normal m a result dirt) = equations.Normal m (says_of p m a) (record { 
 meant p (Threw m a dirt exc) = equations.Threw m (says_of p m a) (record { result = false; dirt = dirt; exc = exc })
 meant p (Stored cell) = equations.Stored (cell_of p cell)
 
+-- the fact is one of the least solution
+abbrev pub IsTold : Parts → Facts → Item → Type 0
+IsTold p f x = Taints p f (meant p x)
+
 -- each of these facts is one of the least solution
 abbrev pub IsSound : Parts → Facts → List Item → Type 0
 IsSound p f items = (x : Item) → Contains items x → Taints p f (meant p x)
