@@ -3,8 +3,8 @@ use Rattle.std.proofs.Common.{◌≡◌, ◌⊎◌, inl, inr, ℕ, zero, suc, �
 use Rattle.std.specs.Prelude.{All, ◌&&◌, ◌||◌, ◌==◌, not, nat_eq, Contains, Option, slice_get, slice_index_or, if◌then◌else◌}
 use Rattle.std.specs.Int.{bit_at}
 use Rattle.std.proofs.lemmas.Nat.Bits.{bit_at_lowest, bit_at-suc}
-use Rattle.std.proofs.lemmas.Bool.{and_parts, and_from, or_left, or_right, false≢true, eqb-true, eq-eqb, cases_Bool, ltb-false}
-use Rattle.std.proofs.lemmas.Option.{same_Some}
+use Rattle.std.proofs.lemmas.Bool.{and_parts, and_from, or_cases, or_left, or_right, false≢true, eqb-true, eq-eqb, cases_Bool, ltb-false}
+use Rattle.std.proofs.lemmas.Option.{same_Some, slice_get_within}
 use Rattle.std.proofs.lemmas.List.Elements.{Contains-append_left, Contains-append_right, All-contains}
 use Rattle.ja_base.specs.declared.java_type.Kind.{Kind}
 use Rattle.ja_base.specs.declared.java_type.Kind.TheVariants.{P1, P2, R, T}
@@ -26,6 +26,7 @@ use Rattle.ja_ir.specs.Lookup.{OpAt, Leads, instr_at, code_of, HasCode, is_membe
 use Rattle.ja_ir.specs.Operations.{arguments, pops, result_count, height_after, FindsOperands}
 use Rattle.ja_ir.specs.Params.{param_local, param_count, param_types}
 use Rattle.ja_ir.specs.Whole.{IsWhole, IsReachedAt, NamesInitializer}
+use Rattle.ja_ir.specs.Tokens.{lib_token, rarr_token, parr_token, absorbs, absorbs_as}
 use Rattle.ja_ir.specs.Handlers.{Place, Inside, Outside, dest, dest_among, handlers_of}
 use Rattle.ja_ir.specs.Initializing.{inits_of, inits_of_class, inits_of_field, inits_of_method, inits_of_call, InitAt}
 use Rattle.ja_facts.specs.declared.facts.Facts.{Facts}
@@ -43,6 +44,7 @@ use Rattle.ja_work.specs.declared.way.Way.{Way}
 use Rattle.ja_work.specs.declared.way.Way.TheVariants.{Clean, Thrown, InLibrary}
 use Rattle.ja_work.specs.declared.clause.Spot.{Spot}
 use Rattle.ja_work.specs.declared.clause.Spot.TheVariants.{Local as InLocal, OnStack as InStack, Dirt, Exc}
+use Rattle.ja_work.specs.declared.clause.Clause.{Clause}
 use Rattle.ja_work.specs.Clauses.{AllFit, value}
 use Rattle.ja_work.specs.Ends.{Tests, may_go_on, may_end, normal_clauses, exceptional_clauses, return_clauses, throw_clauses, caught_clauses}
 use Rattle.ja_work.specs.Told.{told, tests_of, affected_of, is_empty}
@@ -57,7 +59,7 @@ use Rattle.ja_explicit.specs.declared.item.Item.TheVariants.{Context, At, Normal
 use Rattle.ja_explicit.specs.InnerWords.{bit, says, spot_at, next_words, handed_clauses}
 use Rattle.ja_explicit.specs.InnerSteps as code
 use Rattle.ja_explicit.specs.InnerSteps.{Standing, Passage, stores, read_field, read_slot, is_readable, init_passage, call_passage}
-use Rattle.ja_explicit.specs.InnerRounds.{IsClosed}
+use Rattle.ja_explicit.specs.InnerRounds.{says_in, IsClosed}
 use Rattle.ja_explicit.proofs.Worded.{in_over, word_fits, all_word, some_word, IsQuiet, value_numbered}
 use Rattle.ja_explicit.proofs.Quiet.{idle_quiet, normal_idle, exceptional_idle, return_idle, throw_idle, caught_idle}
 use Rattle.ja_explicit.proofs.Lists.{here, there, cons_cases, nothing_in, in_if, in_passing, in_at_all, in_lands_all, in_ends}
@@ -122,6 +124,20 @@ module _ (p : Parts) (whole : IsWhole p) where
   op_initializer (PutStatic field) n h = field_init (slice_get p.fields field.0) n h
   op_initializer (Call call) n h = call_init call.kind call.found n h
   op_initializer _ n h = nothing_in n h
+
+-- an absorbing token is one
+pub absorbs_low : (p : Parts) (t : ℕ) → absorbs p t ≡ true → t < token_count p
+absorbs_low p t e = go (slice_get p.classes t) refl e
+  where
+    go : (o : Option ClassInfo) → slice_get p.classes t ≡ o → absorbs_as p t o ≡ true → t < token_count p
+    go (Some class) found h = let lt = slice_get_within p.classes t class found in omega (arith, lt)
+    go None found h = elim (or_cases (t == lib_token p) ((t == rarr_token p) || (t == parr_token p)) h) [
+      | inl is ↦ (let same = eqb-true t (lib_token p) is in omega (arith, same))
+      | inr other ↦ (elim (or_cases (t == rarr_token p) (t == parr_token p) other) [
+          | inl is ↦ (let same = eqb-true t (rarr_token p) is in omega (arith, same))
+          | inr is ↦ (let same = eqb-true t (parr_token p) is in omega (arith, same))
+        ])
+    ]
 
 -- ---- what lists of facts cover
 
@@ -405,3 +421,215 @@ module _ (p : Parts) (f : Facts) (whole : IsWhole p) (given : AreGiven p f) (ite
                 (Contains-append_left (code.lands_all s places (code.words_by Thrown s tests instr.op instr.height)) (code.lands_all s places (code.words_by InLibrary s tests instr.op instr.height)) x h)
             in_way InLibrary x h = Contains-append_right (code.lands_all s places (code.words_by Clean s tests instr.op instr.height)) (code.lands_all s places (code.words_by Thrown s tests instr.op instr.height) ++ code.lands_all s places (code.words_by InLibrary s tests instr.op instr.height)) x
                 (Contains-append_right (code.lands_all s places (code.words_by Thrown s tests instr.op instr.height)) (code.lands_all s places (code.words_by InLibrary s tests instr.op instr.height)) x h)
+
+    -- ---- class initialisers
+
+    init_method : (n : ℕ) → InitAt p m i n → NamesInitializer p n
+    init_method n init = op_initializer p whole init.instr.op (record { 0 = n }) init.listed
+
+    in_inits : (inits : List MethodId) (n : MethodId) (x : Item) → Contains inits n → Contains (code.goes_through items s (init_passage p f m i instr.height n.0)) x → Contains (code.initializes p f items s i instr.height inits) x
+    in_inits [] n x h k = nothing_in n h
+    in_inits (q ∷ inits) n x h k = elim (cons_cases q inits n h) [
+      | inl is ↦ Contains-append_left (code.goes_through items s (init_passage p f m i instr.height q.0)) (code.initializes p f items s i instr.height inits) x (subst (λ (y : MethodId). Contains (code.goes_through items s (init_passage p f m i instr.height y.0)) x) (sym is) k)
+      | inr rest ↦ Contains-append_right (code.goes_through items s (init_passage p f m i instr.height q.0)) (code.initializes p f items s i instr.height inits) x (in_inits inits n x rest k)
+    ]
+
+    in_init : (n : ℕ) (x : Item) → InitAt p m i n → Contains (code.goes_through items s (init_passage p f m i instr.height n)) x → Contains items x
+    in_init n x init h = in_3 x (in_inits (inits_of p instr.op) (record { 0 = n }) x (subst (λ (y : Instr). Contains (inits_of p y.op) (record { 0 = n })) (same_instr init.instr init.found) init.listed) h)
+
+    nothing_covers : (n : ℕ) (c : Assignment) → NamesInitializer p n → IsNothing c → Contains items (Context n 0) → CoversContext p f items n c
+    nothing_covers n c it nothing inside = record {
+      method = it.method;
+      found = it.named.found;
+      has_code = it.code;
+      w = 0;
+      small = pow_pos (slot_count it.method);
+      same = same_nothing (says it.method 0) c (subst (λ o. IsNothing (says_in o 0)) it.named.found (says_nothing p n)) nothing;
+      listed = inside;
+    }
+
+    initialized_covers : (n : ℕ) (c : Assignment) → InitAt p m i n → IsNothing c → CoversContext p f items n c
+    initialized_covers n c init nothing = nothing_covers n c (init_method n init) nothing
+        (in_init n (Context n 0) init (here (Context n 0) (code.ends_with_each s (init_passage p f m i instr.height n) items)))
+
+    own_reached : IsReachedAt method i instr.height
+    own_reached = record { instr = instr; found = at; reached = reached; is_height = refl }
+
+    module _ (n : ℕ) where
+      abbrev init_way : Passage
+      init_way = init_passage p f m i instr.height n
+
+      abbrev init_clauses : Summary → Spot → Clause
+      init_clauses sum = return_clauses (affected_of p f m i n 0 instr.height) instr.height false sum
+
+      initializer_at : (after : Assignment) (result dirt : Bool) → InitAt p m i n → Contains items (Normal n 0 result dirt)
+          → IsReturn (told p f) m i n 0 instr.height false before (record { result = result; dirt = dirt; exc = false }) after → CoversAt p f items m i entry after
+      initializer_at after result dirt init inside end = covers_at i instr.height r.0 after own_reached r.2
+          (in_init n (At m i a r.0) init (there (Context n 0) (code.ends_with_each s init_way items) (At m i a r.0) (in_ends s init_way items (Normal n 0 result dirt) (At m i a r.0) inside
+            (in_if ((n == n) && (0 == 0)) (code.returns_with s init_way (record { result = result; dirt = dirt; exc = false })) (At m i a r.0) (and_from (n == n) (0 == 0) (eq-eqb n n refl) refl)
+              (in_at_all m a (i ∷ []) (next_words method (init_clauses (record { result = result; dirt = dirt; exc = false })) before) i r.0 (here i []) r.1)))))
+        where
+          r : (w : ℕ) × Contains (next_words method (init_clauses (record { result = result; dirt = dirt; exc = false })) before) w × (says method w ≡ after)
+          r = some_word method (init_clauses (record { result = result; dirt = dirt; exc = false })) before
+              (idle_quiet method (init_clauses (record { result = result; dirt = dirt; exc = false })) b (return_idle p f m i method found n 0 instr.height false (record { result = result; dirt = dirt; exc = false }) (λ e. absurd (false≢true e)))) after
+              (return_fit (told p f) m i n 0 instr.height (affected_of p f m i n 0 instr.height) (affected_told p f m i n 0 instr.height) before false (record { result = result; dirt = dirt; exc = false }) after end)
+
+      initializer_covers : {height : ℕ} {op : Op} (c after : Assignment) (sum : Summary) → OpAt p m i op height → InitAt p m i n → IsNothing c → CoversNormal p f items n c sum
+          → IsReturn (told p f) m i n 0 height false before sum after → CoversAt p f items m i entry after
+      initializer_covers {height} c after sum o init nothing normal end =
+          initializer_at after normal.result normal.dirt init
+          (subst (λ k. Contains items (Normal n k normal.result normal.dirt)) (zero_says normal.method normal.w normal.small (subst IsNothing (sym normal.same) nothing)) normal.listed)
+          (subst (λ q. IsReturn (told p f) m i n 0 instr.height false before q after) (sym normal.same_summary) (subst (λ h. IsReturn (told p f) m i n 0 h false before sum after) (sym ((op_same o).1)) end))
+
+    -- ---- calls
+
+    in_calls_with : (call : CallOp) (under n : ℕ) (cs : List ℕ) (c : ℕ) (x : Item) → Contains cs c → Contains (code.goes_through items s (call_passage p f m i instr.next places call under n c)) x
+        → Contains (code.calls_with p f items s i instr.next places call under n cs) x
+    in_calls_with call under n [] c x h k = nothing_in c h
+    in_calls_with call under n (q ∷ cs) c x h k = elim (cons_cases q cs c h) [
+      | inl is ↦ Contains-append_left (code.goes_through items s (call_passage p f m i instr.next places call under n q)) (code.calls_with p f items s i instr.next places call under n cs) x (subst (λ y. Contains (code.goes_through items s (call_passage p f m i instr.next places call under n y)) x) (sym is) k)
+      | inr rest ↦ Contains-append_right (code.goes_through items s (call_passage p f m i instr.next places call under n q)) (code.calls_with p f items s i instr.next places call under n cs) x (in_calls_with call under n cs c x rest k)
+    ]
+
+    in_calls_each : (call : CallOp) (under : ℕ) (ns : List ℕ) (n : ℕ) (x : Item) → Contains ns n → Contains (code.calls_method p f items s i instr.next places call under n (slice_get p.methods n)) x
+        → Contains (code.calls_each p f items s i instr.next places call under ns) x
+    in_calls_each call under [] n x h k = nothing_in n h
+    in_calls_each call under (q ∷ ns) n x h k = elim (cons_cases q ns n h) [
+      | inl is ↦ Contains-append_left (code.calls_method p f items s i instr.next places call under q (slice_get p.methods q)) (code.calls_each p f items s i instr.next places call under ns) x
+          (subst (λ y. Contains (code.calls_method p f items s i instr.next places call under y (slice_get p.methods y)) x) (sym is) k)
+      | inr rest ↦ Contains-append_right (code.calls_method p f items s i instr.next places call under q (slice_get p.methods q)) (code.calls_each p f items s i instr.next places call under ns) x (in_calls_each call under ns n x rest k)
+    ]
+
+    module _ (call : CallOp) (is : instr.op ≡ Call call) (n : ℕ) (target : Contains (targets_at f.graph m i).methods n) (callee : Method) (callee_found : slice_get p.methods n ≡ Some callee) (has_code : HasCode callee) where
+      abbrev under : ℕ
+      under = instr.height - arguments call
+
+      abbrev given_words : List ℕ
+      given_words = next_words callee (handed_clauses callee (arguments call) under before) before
+
+      enough : arguments call ≤ instr.height
+      enough = subst (λ (o : Op). pops o ≤ instr.height) is takes_le
+
+      counted : param_count callee ≡ arguments call
+      counted =
+          let it = given.graph.each m i n instr.height call (record { instr = instr; found = at_m; is_op = is; is_height = refl }) target in
+          ap param_count (same_Some callee it.method (sym callee_found ∙ it.found)) ∙ it.is_count
+
+      quiet_hands : IsQuiet callee (handed_clauses callee (arguments call) under before) before
+      quiet_hands = hands_quiet p whole n callee callee_found has_code call counted under before
+
+      abbrev way : ℕ → Passage
+      way c = call_passage p f m i instr.next places call under n c
+
+      in_call : (c : ℕ) (x : Item) → Contains given_words c → Contains (code.goes_through items s (way c)) x → Contains items x
+      in_call c x cn h = in_4 x (subst (λ (o : Op). Contains (code.calls p f items s i instr.next places o instr.height) x) (sym is)
+          (in_calls_each call under (targets_at f.graph m i).methods n x target
+            (subst (λ (o : Option Method). Contains (code.calls_method p f items s i instr.next places call under n o) x) (sym callee_found)
+              (subst (λ (e : Bool). Contains (if e then [] else code.calls_with p f items s i instr.next places call under n given_words) x) (sym (not_empty callee.code has_code))
+                (in_calls_with call under n given_words c x cn h)))))
+        where
+          not_empty : (xs : List Instr) → 0 < length xs → is_empty xs ≡ false
+          not_empty [] lt = absurd (omega (arith, lt))
+          not_empty (y ∷ xs) lt = refl
+
+      call_covers : (c : Assignment) → HandsOver callee call under before c → CoversContext p f items n c
+      call_covers c hands =
+          let r = some_word callee (handed_clauses callee (arguments call) under before) before quiet_hands c (hands_fit callee call under before c counted hands) in
+          record {
+            method = callee;
+            found = callee_found;
+            has_code = has_code;
+            w = r.0;
+            small = (word_fits callee (handed_clauses callee (arguments call) under before) before r.0 r.1).0;
+            same = r.2;
+            listed = in_call r.0 (Context n r.0) r.1 (here (Context n r.0) (code.ends_with_each s (way r.0) items));
+          }
+
+      given_word : (w : ℕ) → w < 2 ^ slot_count callee → HandsOver callee call under before (says callee w) → Contains given_words w
+      given_word w lt hands = all_word callee (handed_clauses callee (arguments call) under before) before w lt (hands_fit callee call under before (says callee w) counted hands)
+
+      answer_room : (j : ℕ) → Contains instr.next j → has_result call.result ≡ true → under < method.stack
+      answer_room j h e = by_result call.result refl (subst (λ (o : Op). height_after o instr.height ≤ method.stack) is (after_room j h))
+        where
+          by_result : (o : Option JavaType) → call.result ≡ o → height_after (Call call) instr.height ≤ method.stack → under < method.stack
+          by_result None none le = absurd (false≢true (sym (ap has_result none) ∙ e))
+          by_result (Some type) some le = let one : result_count call.result ≡ 1 = ap result_count some in omega (arith, one, le)
+
+      abbrev back_clauses : Summary → Spot → Clause
+      back_clauses sum = return_clauses (affected_of p f m i n (arguments call) under) under (has_result call.result) sum
+
+      abbrev out_clauses : Summary → Spot → Clause
+      out_clauses sum = throw_clauses (affected_of p f m i n (arguments call) under) sum
+
+      return_covers : (j w : ℕ) (after : Assignment) (result dirt : Bool) → Leads p m i j → Contains given_words w → Contains items (Normal n w result dirt)
+          → IsReturn (told p f) m i n (arguments call) under (has_result call.result) before (record { result = result; dirt = dirt; exc = false }) after → CoversAt p f items m j entry after
+      return_covers j w after result dirt leads wn inside end = covers_at j (height_after instr.op instr.height) r.0 after (next_there p whole m method found i instr at reached j jn) r.2
+          (in_call w (At m j a r.0) wn (there (Context n w) (code.ends_with_each s (way w) items) (At m j a r.0) (in_ends s (way w) items (Normal n w result dirt) (At m j a r.0) inside
+            (in_if ((n == n) && (w == w)) (code.returns_with s (way w) (record { result = result; dirt = dirt; exc = false })) (At m j a r.0) (and_from (n == n) (w == w) (eq-eqb n n refl) (eq-eqb w w refl))
+              (in_at_all m a instr.next (next_words method (back_clauses (record { result = result; dirt = dirt; exc = false })) before) j r.0 jn r.1)))))
+        where
+          jn : Contains instr.next j
+          jn = leads_in j leads
+
+          r : (v : ℕ) × Contains (next_words method (back_clauses (record { result = result; dirt = dirt; exc = false })) before) v × (says method v ≡ after)
+          r = some_word method (back_clauses (record { result = result; dirt = dirt; exc = false })) before
+              (idle_quiet method (back_clauses (record { result = result; dirt = dirt; exc = false })) b (return_idle p f m i method found n (arguments call) under (has_result call.result) (record { result = result; dirt = dirt; exc = false }) (answer_room j jn))) after
+              (return_fit (told p f) m i n (arguments call) under (affected_of p f m i n (arguments call) under) (affected_told p f m i n (arguments call) under) before (has_result call.result) (record { result = result; dirt = dirt; exc = false }) after end)
+
+      -- an end by an exception of the method leaves a word
+      callee_word : (w : ℕ) (thrown : Assignment) (dirt exc : Bool) → Contains given_words w → Contains items (Threw n w dirt exc)
+          → IsCallThrown (told p f) m i n (arguments call) under before (record { result = false; dirt = dirt; exc = exc }) thrown → (v : ℕ) × AllLand v × (says method v ≡ thrown)
+      callee_word w thrown dirt exc wn inside end = (r.0, (λ place x pn xn. in_call w x wn (there (Context n w) (code.ends_with_each s (way w) items) x (in_ends s (way w) items (Threw n w dirt exc) x inside
+            (in_if ((n == n) && (w == w)) (code.throws_with s (way w) (record { result = false; dirt = dirt; exc = exc })) x (and_from (n == n) (w == w) (eq-eqb n n refl) (eq-eqb w w refl))
+              (in_lands_all s places (next_words method (out_clauses (record { result = false; dirt = dirt; exc = exc })) before) place r.0 x pn r.1 xn))))), r.2)
+        where
+          r : (v : ℕ) × Contains (next_words method (out_clauses (record { result = false; dirt = dirt; exc = exc })) before) v × (says method v ≡ thrown)
+          r = some_word method (out_clauses (record { result = false; dirt = dirt; exc = exc })) before
+              (idle_quiet method (out_clauses (record { result = false; dirt = dirt; exc = exc })) b (throw_idle p f m i method found n (arguments call) under (record { result = false; dirt = dirt; exc = exc }))) thrown
+              (throw_fit (told p f) m i n (arguments call) under (affected_of p f m i n (arguments call) under) (affected_told p f m i n (arguments call) under) before (record { result = false; dirt = dirt; exc = exc }) thrown end)
+
+    -- ---- returns, writes and library calls
+
+    in_returns : (op : Op) (x : Item) → instr.op ≡ op → Contains (code.returns s op instr.height) x → Contains items x
+    in_returns op x is h = in_5 x (subst (λ (o : Op). Contains (code.returns s o instr.height) x) (sym is) h)
+
+    normal_of : (result : Bool) → Contains items (Normal m a result before.dirt) → CoversNormal p f items m entry (return_summary result before)
+    normal_of result h = record { method = method; found = found; w = a; small = small; same = refl; result = result; dirt = before.dirt; same_summary = refl; listed = h }
+
+    returns_covers : {k : ℕ} {kind : Kind} → OpAt p m i (Return (Some kind)) (suc k) → CoversNormal p f items m entry (return_summary (before.slot (OnStack k)) before)
+    returns_covers {k} {kind} o =
+        let e : instr.height - 1 ≡ k = let h = (op_same o).1 in omega (arith, h) in
+        subst (λ z. CoversNormal p f items m entry (return_summary (before.slot (OnStack z)) before)) e
+        (normal_of (before.slot (OnStack (instr.height - 1)))
+          (in_returns (Return (Some kind)) (Normal m a (before.slot (OnStack (instr.height - 1))) before.dirt) ((op_same o).0) (here (Normal m a (before.slot (OnStack (instr.height - 1))) before.dirt) [])))
+
+    ends_covers : {height : ℕ} → OpAt p m i (Return None) height → CoversNormal p f items m entry (return_summary false before)
+    ends_covers o = normal_of false (in_returns (Return None) (Normal m a false before.dirt) ((op_same o).0) (here (Normal m a false before.dirt) []))
+
+    written : (op : Op) (cell : ℕ) (v : ℕ) → instr.op ≡ op → code.stored_cell p op ≡ Some cell → instr.height - 1 ≡ v → before.slot (OnStack v) ≡ true → Contains items (Stored cell)
+    written op cell v is e top t = in_6 (Stored cell)
+        (subst (λ (o : Op). Contains (code.writes p s o instr.height) (Stored cell)) (sym is)
+          (subst (λ (o : Option ℕ). Contains (code.stored_if o (before.slot (OnStack (instr.height - 1)))) (Stored cell)) (sym e)
+            (in_if (before.slot (OnStack (instr.height - 1))) (Stored cell ∷ []) (Stored cell) (ap (λ z. before.slot (OnStack z)) top ∙ t) (here (Stored cell) []))))
+
+    stored_covers : {height : ℕ} {op : Op} {cell : Cell} {v : Slot} → OpAt p m i op height → Stores p op height cell v → before.slot v ≡ true → Contains items (Stored (cell_number p cell))
+    stored_covers o (stores_field {f = g} {k = k} e) t = written (PutField (record { 0 = g })) g (suc k) ((op_same o).0) refl (let h = (op_same o).1 in omega (arith, h, e)) t
+    stored_covers o (stores_static {f = g} {k = k} e) t = written (PutStatic (record { 0 = g })) g k ((op_same o).0) refl (let h = (op_same o).1 in omega (arith, h, e)) t
+    stored_covers o (stores_reference {k = k} e) t = written (ArrStore R) (code.bag p (rarr_token p)) (suc (suc k)) ((op_same o).0) refl (let h = (op_same o).1 in omega (arith, h, e)) t
+    stored_covers o (stores_word {k = k} e) t = written (ArrStore P1) (code.bag p (parr_token p)) (suc (suc k)) ((op_same o).0) refl (let h = (op_same o).1 in omega (arith, h, e)) t
+    stored_covers o (stores_pair {k = k} e) t = written (ArrStore P2) (code.bag p (parr_token p)) (suc (suc k)) ((op_same o).0) refl (let h = (op_same o).1 in omega (arith, h, e)) t
+
+    taken_covers : {under : ℕ} {call : CallOp} (t : ℕ) → CallAt p m i call under → (told p f).classes (Takes m i t) → put_in before call under ≡ true → Contains items (Stored (code.bag p t))
+    taken_covers t at' (inl none) put = absurd none
+    taken_covers {under} {call} t at' (inr has) put = in_7 (Stored (code.bag p t))
+        (subst (λ (o : Op). Contains (code.takes p f s i o instr.height) (Stored (code.bag p t))) (sym ((op_same at'.at).0))
+          (in_if (put_in before call (instr.height - arguments call)) (code.takes_all p (takers_at f.graph m i)) (Stored (code.bag p t)) (ap (put_in before call) same_under ∙ put)
+            (in_over (code.takes_by p (takers_at f.graph m i)) 0 (token_count p) t (Stored (code.bag p t)) (omega arith) low
+              (in_if (slice_index_or (takers_at f.graph m i) t false) (Stored (code.bag p t) ∷ []) (Stored (code.bag p t)) has (here (Stored (code.bag p t)) [])))))
+      where
+        same_under : instr.height - arguments call ≡ under
+        same_under = let h = (op_same at'.at).1 in let u = at'.under_is in omega (arith, h, u)
+
+        low : t < 0 + token_count p
+        low = let lt = absorbs_low p t ((given.graph.takers m i t has).1) in omega (arith, lt)
+
