@@ -224,7 +224,7 @@ module _ (p : Parts) (f : Facts) (whole : IsWhole p) (given : AreGiven p f) (ite
     same_instr : (x : Instr) → instr_at p m i ≡ Some x → x ≡ instr
     same_instr x e = same_Some x instr (sym e ∙ at_m)
 
-    op_same : {op : Op} {height : ℕ} → OpAt p m i op height → (instr.op ≡ op) × (instr.height ≡ height)
+    pub op_same : {op : Op} {height : ℕ} → OpAt p m i op height → (instr.op ≡ op) × (instr.height ≡ height)
     op_same o = let e = same_instr o.instr o.found in (ap (λ (x : Instr). x.op) (sym e) ∙ o.is_op, ap (λ (x : Instr). x.height) (sym e) ∙ o.is_height)
 
     leads_in : (j : ℕ) → Leads p m i j → Contains instr.next j
@@ -339,7 +339,7 @@ module _ (p : Parts) (f : Facts) (whole : IsWhole p) (given : AreGiven p f) (ite
           | inl yea ↦ or_right (not ((says method r.0).slot (read_slot instr.op instr.height))) (code.answers p f items g) (answered g e (subst (λ (x : Assignment). x.slot (read_slot instr.op instr.height) ≡ true) r.2 yea))
         ]
 
-    steps_covers : {j height : ℕ} {op : Op} (after : Assignment) → OpAt p m i op height → Leads p m i j → IsNormalEnd p (told p f) m i before after
+    pub steps_covers : {j height : ℕ} {op : Op} (after : Assignment) → OpAt p m i op height → Leads p m i j → IsNormalEnd p (told p f) m i before after
         → ((g : ℕ) (r : Slot) → Reads op height g r → after.slot r ≡ false) → CoversAt p f items m j entry after
     steps_covers {j} {height} {op} after o leads end none = normal_covers j after leads end (λ g e t. absurd (false≢true (sym (clean g e) ∙ t)))
       where
@@ -353,7 +353,7 @@ module _ (p : Parts) (f : Facts) (whole : IsWhole p) (given : AreGiven p f) (ite
         (some_any (λ c. slice_index_or (slice_index_or f.holds.fields g []) c false && stores items c) (cell_count p) (cell_number p c) (cell_low p c it.0)
           (and_from (slice_index_or (slice_index_or f.holds.fields g []) (cell_number p c) false) (stores items (cell_number p c)) it.1 (item_has items (Stored (cell_number p c)) h)))
 
-    reads_covers : {j g height : ℕ} {op : Op} {r : Slot} (c : Cell) (after : Assignment) → OpAt p m i op height → Leads p m i j → IsNormalEnd p (told p f) m i before after
+    pub reads_covers : {j g height : ℕ} {op : Op} {r : Slot} (c : Cell) (after : Assignment) → OpAt p m i op height → Leads p m i j → IsNormalEnd p (told p f) m i before after
         → Reads op height g r → Answers (told p f) g c → Contains items (Stored (cell_number p c)) → CoversAt p f items m j entry after
     reads_covers {j} {g} {height} {op} c after o leads end reads answers h = normal_covers j after leads end (λ k e t. subst (λ n. code.answers p f items n ≡ true) (same k e) (answers_cell g c answers h))
       where
@@ -374,10 +374,10 @@ module _ (p : Parts) (f : Facts) (whole : IsWhole p) (given : AreGiven p f) (ite
         subst (λ k. IsReachedAt method k 1) h.3 (handler_there p whole m method found i instr at reached h.0 h.1 h.2)
 
     -- what an exception that left a word comes to is listed
-    abbrev AllLand : ℕ → Type 0
+    abbrev pub AllLand : ℕ → Type 0
     AllLand w = (place : Place) (x : Item) → Contains places place → Contains (code.lands_at s w place) x → Contains items x
 
-    lands_inside : (w t j : ℕ) (thrown after : Assignment) → AllLand w → says method w ≡ thrown → (told p f).classes (InThrown m i t) → Contains (dest p m i t) (Inside j) → IsCaught thrown after → CoversAt p f items m j entry after
+    pub lands_inside : (w t j : ℕ) (thrown after : Assignment) → AllLand w → says method w ≡ thrown → (told p f).classes (InThrown m i t) → Contains (dest p m i t) (Inside j) → IsCaught thrown after → CoversAt p f items m j entry after
     lands_inside w t j thrown after land same it d caught = covers_at j 1 r.0 after reached' r.2
         (land (Inside j) (At m j a r.0) (in_places t (Inside j) it d) (in_at_all m a (j ∷ []) (next_words method caught_clauses (says method w)) j r.0 (here j []) r.1))
       where
@@ -391,7 +391,7 @@ module _ (p : Parts) (f : Facts) (whole : IsWhole p) (given : AreGiven p f) (ite
         r = some_word method caught_clauses (says method w) (idle_quiet method caught_clauses w (caught_idle method room)) after
             (caught_fit (says method w) after (subst (λ x. IsCaught x after) (sym same) caught))
 
-    lands_outside : (w t : ℕ) (thrown : Assignment) → AllLand w → says method w ≡ thrown → (told p f).classes (InThrown m i t) → Contains (dest p m i t) Outside → CoversThrew p f items m entry (thrown_summary thrown)
+    pub lands_outside : (w t : ℕ) (thrown : Assignment) → AllLand w → says method w ≡ thrown → (told p f).classes (InThrown m i t) → Contains (dest p m i t) Outside → CoversThrew p f items m entry (thrown_summary thrown)
     lands_outside w t thrown land same it d = record {
       method = method;
       found = found;
@@ -405,7 +405,7 @@ module _ (p : Parts) (f : Facts) (whole : IsWhole p) (given : AreGiven p f) (ite
     }
 
     -- an exceptional end leaves a word
-    thrown_word : (thrown : Assignment) → IsExceptionalEnd p (told p f) m i before thrown → (w : ℕ) × AllLand w × (says method w ≡ thrown)
+    pub thrown_word : (thrown : Assignment) → IsExceptionalEnd p (told p f) m i before thrown → (w : ℕ) × AllLand w × (says method w ≡ thrown)
     thrown_word thrown end = by_way (exceptional_fit p (told p f) m i instr tests before thrown at_m finds (tests_told p f m i) end).1
       where
         by_way : ((way : Way) × (may_end tests instr.op way ≡ true) × AllFit (exceptional_clauses way tests instr.op instr.height) before thrown) → (w : ℕ) × AllLand w × (says method w ≡ thrown)
@@ -448,7 +448,7 @@ module _ (p : Parts) (f : Facts) (whole : IsWhole p) (given : AreGiven p f) (ite
       listed = inside;
     }
 
-    initialized_covers : (n : ℕ) (c : Assignment) → InitAt p m i n → IsNothing c → CoversContext p f items n c
+    pub initialized_covers : (n : ℕ) (c : Assignment) → InitAt p m i n → IsNothing c → CoversContext p f items n c
     initialized_covers n c init nothing = nothing_covers n c (init_method n init) nothing
         (in_init n (Context n 0) init (here (Context n 0) (code.ends_with_each s (init_passage p f m i instr.height n) items)))
 
@@ -474,7 +474,7 @@ module _ (p : Parts) (f : Facts) (whole : IsWhole p) (given : AreGiven p f) (ite
               (idle_quiet method (init_clauses (record { result = result; dirt = dirt; exc = false })) b (return_idle p f m i method found n 0 instr.height false (record { result = result; dirt = dirt; exc = false }) (λ e. absurd (false≢true e)))) after
               (return_fit (told p f) m i n 0 instr.height (affected_of p f m i n 0 instr.height) (affected_told p f m i n 0 instr.height) before false (record { result = result; dirt = dirt; exc = false }) after end)
 
-      initializer_covers : {height : ℕ} {op : Op} (c after : Assignment) (sum : Summary) → OpAt p m i op height → InitAt p m i n → IsNothing c → CoversNormal p f items n c sum
+      pub initializer_covers : {height : ℕ} {op : Op} (c after : Assignment) (sum : Summary) → OpAt p m i op height → InitAt p m i n → IsNothing c → CoversNormal p f items n c sum
           → IsReturn (told p f) m i n 0 height false before sum after → CoversAt p f items m i entry after
       initializer_covers {height} c after sum o init nothing normal end =
           initializer_at after normal.result normal.dirt init
@@ -504,7 +504,7 @@ module _ (p : Parts) (f : Facts) (whole : IsWhole p) (given : AreGiven p f) (ite
       abbrev under : ℕ
       under = instr.height - arguments call
 
-      abbrev given_words : List ℕ
+      abbrev pub given_words : List ℕ
       given_words = next_words callee (handed_clauses callee (arguments call) under before) before
 
       enough : arguments call ≤ instr.height
@@ -532,7 +532,7 @@ module _ (p : Parts) (f : Facts) (whole : IsWhole p) (given : AreGiven p f) (ite
           not_empty [] lt = absurd (omega (arith, lt))
           not_empty (y ∷ xs) lt = refl
 
-      call_covers : (c : Assignment) → HandsOver callee call under before c → CoversContext p f items n c
+      pub call_covers : (c : Assignment) → HandsOver callee call under before c → CoversContext p f items n c
       call_covers c hands =
           let r = some_word callee (handed_clauses callee (arguments call) under before) before quiet_hands c (hands_fit callee call under before c counted hands) in
           record {
@@ -545,7 +545,7 @@ module _ (p : Parts) (f : Facts) (whole : IsWhole p) (given : AreGiven p f) (ite
             listed = in_call r.0 (Context n r.0) r.1 (here (Context n r.0) (code.ends_with_each s (way r.0) items));
           }
 
-      given_word : (w : ℕ) → w < 2 ^ slot_count callee → HandsOver callee call under before (says callee w) → Contains given_words w
+      pub given_word : (w : ℕ) → w < 2 ^ slot_count callee → HandsOver callee call under before (says callee w) → Contains given_words w
       given_word w lt hands = all_word callee (handed_clauses callee (arguments call) under before) before w lt (hands_fit callee call under before (says callee w) counted hands)
 
       answer_room : (j : ℕ) → Contains instr.next j → has_result call.result ≡ true → under < method.stack
@@ -561,7 +561,7 @@ module _ (p : Parts) (f : Facts) (whole : IsWhole p) (given : AreGiven p f) (ite
       abbrev out_clauses : Summary → Spot → Clause
       out_clauses sum = throw_clauses (affected_of p f m i n (arguments call) under) sum
 
-      return_covers : (j w : ℕ) (after : Assignment) (result dirt : Bool) → Leads p m i j → Contains given_words w → Contains items (Normal n w result dirt)
+      pub return_covers : (j w : ℕ) (after : Assignment) (result dirt : Bool) → Leads p m i j → Contains given_words w → Contains items (Normal n w result dirt)
           → IsReturn (told p f) m i n (arguments call) under (has_result call.result) before (record { result = result; dirt = dirt; exc = false }) after → CoversAt p f items m j entry after
       return_covers j w after result dirt leads wn inside end = covers_at j (height_after instr.op instr.height) r.0 after (next_there p whole m method found i instr at reached j jn) r.2
           (in_call w (At m j a r.0) wn (there (Context n w) (code.ends_with_each s (way w) items) (At m j a r.0) (in_ends s (way w) items (Normal n w result dirt) (At m j a r.0) inside
@@ -577,7 +577,7 @@ module _ (p : Parts) (f : Facts) (whole : IsWhole p) (given : AreGiven p f) (ite
               (return_fit (told p f) m i n (arguments call) under (affected_of p f m i n (arguments call) under) (affected_told p f m i n (arguments call) under) before (has_result call.result) (record { result = result; dirt = dirt; exc = false }) after end)
 
       -- an end by an exception of the method leaves a word
-      callee_word : (w : ℕ) (thrown : Assignment) (dirt exc : Bool) → Contains given_words w → Contains items (Threw n w dirt exc)
+      pub callee_word : (w : ℕ) (thrown : Assignment) (dirt exc : Bool) → Contains given_words w → Contains items (Threw n w dirt exc)
           → IsCallThrown (told p f) m i n (arguments call) under before (record { result = false; dirt = dirt; exc = exc }) thrown → (v : ℕ) × AllLand v × (says method v ≡ thrown)
       callee_word w thrown dirt exc wn inside end = (r.0, (λ place x pn xn. in_call w x wn (there (Context n w) (code.ends_with_each s (way w) items) x (in_ends s (way w) items (Threw n w dirt exc) x inside
             (in_if ((n == n) && (w == w)) (code.throws_with s (way w) (record { result = false; dirt = dirt; exc = exc })) x (and_from (n == n) (w == w) (eq-eqb n n refl) (eq-eqb w w refl))
@@ -596,14 +596,14 @@ module _ (p : Parts) (f : Facts) (whole : IsWhole p) (given : AreGiven p f) (ite
     normal_of : (result : Bool) → Contains items (Normal m a result before.dirt) → CoversNormal p f items m entry (return_summary result before)
     normal_of result h = record { method = method; found = found; w = a; small = small; same = refl; result = result; dirt = before.dirt; same_summary = refl; listed = h }
 
-    returns_covers : {k : ℕ} {kind : Kind} → OpAt p m i (Return (Some kind)) (suc k) → CoversNormal p f items m entry (return_summary (before.slot (OnStack k)) before)
+    pub returns_covers : {k : ℕ} {kind : Kind} → OpAt p m i (Return (Some kind)) (suc k) → CoversNormal p f items m entry (return_summary (before.slot (OnStack k)) before)
     returns_covers {k} {kind} o =
         let e : instr.height - 1 ≡ k = let h = (op_same o).1 in omega (arith, h) in
         subst (λ z. CoversNormal p f items m entry (return_summary (before.slot (OnStack z)) before)) e
         (normal_of (before.slot (OnStack (instr.height - 1)))
           (in_returns (Return (Some kind)) (Normal m a (before.slot (OnStack (instr.height - 1))) before.dirt) ((op_same o).0) (here (Normal m a (before.slot (OnStack (instr.height - 1))) before.dirt) [])))
 
-    ends_covers : {height : ℕ} → OpAt p m i (Return None) height → CoversNormal p f items m entry (return_summary false before)
+    pub ends_covers : {height : ℕ} → OpAt p m i (Return None) height → CoversNormal p f items m entry (return_summary false before)
     ends_covers o = normal_of false (in_returns (Return None) (Normal m a false before.dirt) ((op_same o).0) (here (Normal m a false before.dirt) []))
 
     written : (op : Op) (cell : ℕ) (v : ℕ) → instr.op ≡ op → code.stored_cell p op ≡ Some cell → instr.height - 1 ≡ v → before.slot (OnStack v) ≡ true → Contains items (Stored cell)
@@ -612,14 +612,14 @@ module _ (p : Parts) (f : Facts) (whole : IsWhole p) (given : AreGiven p f) (ite
           (subst (λ (o : Option ℕ). Contains (code.stored_if o (before.slot (OnStack (instr.height - 1)))) (Stored cell)) (sym e)
             (in_if (before.slot (OnStack (instr.height - 1))) (Stored cell ∷ []) (Stored cell) (ap (λ z. before.slot (OnStack z)) top ∙ t) (here (Stored cell) []))))
 
-    stored_covers : {height : ℕ} {op : Op} {cell : Cell} {v : Slot} → OpAt p m i op height → Stores p op height cell v → before.slot v ≡ true → Contains items (Stored (cell_number p cell))
+    pub stored_covers : {height : ℕ} {op : Op} {cell : Cell} {v : Slot} → OpAt p m i op height → Stores p op height cell v → before.slot v ≡ true → Contains items (Stored (cell_number p cell))
     stored_covers o (stores_field {f = g} {k = k} e) t = written (PutField (record { 0 = g })) g (suc k) ((op_same o).0) refl (let h = (op_same o).1 in omega (arith, h, e)) t
     stored_covers o (stores_static {f = g} {k = k} e) t = written (PutStatic (record { 0 = g })) g k ((op_same o).0) refl (let h = (op_same o).1 in omega (arith, h, e)) t
     stored_covers o (stores_reference {k = k} e) t = written (ArrStore R) (code.bag p (rarr_token p)) (suc (suc k)) ((op_same o).0) refl (let h = (op_same o).1 in omega (arith, h, e)) t
     stored_covers o (stores_word {k = k} e) t = written (ArrStore P1) (code.bag p (parr_token p)) (suc (suc k)) ((op_same o).0) refl (let h = (op_same o).1 in omega (arith, h, e)) t
     stored_covers o (stores_pair {k = k} e) t = written (ArrStore P2) (code.bag p (parr_token p)) (suc (suc k)) ((op_same o).0) refl (let h = (op_same o).1 in omega (arith, h, e)) t
 
-    taken_covers : {under : ℕ} {call : CallOp} (t : ℕ) → CallAt p m i call under → (told p f).classes (Takes m i t) → put_in before call under ≡ true → Contains items (Stored (code.bag p t))
+    pub taken_covers : {under : ℕ} {call : CallOp} (t : ℕ) → CallAt p m i call under → (told p f).classes (Takes m i t) → put_in before call under ≡ true → Contains items (Stored (code.bag p t))
     taken_covers t at' (inl none) put = absurd none
     taken_covers {under} {call} t at' (inr has) put = in_7 (Stored (code.bag p t))
         (subst (λ (o : Op). Contains (code.takes p f s i o instr.height) (Stored (code.bag p t))) (sym ((op_same at'.at).0))

@@ -10,3 +10,4 @@ pub mod Handing
 pub mod Sound
 pub mod Starting
 pub mod Complete
+pub mod Closed

@@ -100,22 +100,23 @@ cells_each p S (At m i a b ∷ items) h = cells_each p S items (λ d inside. h d
 cells_each p S (Normal m a r q ∷ items) h = cells_each p S items (λ d inside. h d (there (Normal m a r q) items (Stored d) inside))
 cells_each p S (Threw m a q e ∷ items) h = cells_each p S items (λ d inside. h d (there (Threw m a q e) items (Stored d) inside))
 
+-- the method of an entry has code
+pub entry_code : (p : Parts) → IsWhole p → (entry : Entry) (method : Method) → Contains p.entries entry → slice_get p.methods entry.method.0 ≡ Some method → HasCode method
+entry_code p whole entry method listed found =
+    let it : IsWholeEntry p entry = All-contains (IsWholeEntry p) p.entries entry whole.entries listed in
+    subst HasCode (same_Some it.method method (sym it.found ∙ found)) it.code
+
 module _ (p : Parts) (f : Facts) (whole : IsWhole p) (given : AreGiven p f) (items : List Item) where
   -- where a parameter is opened outside the frame
   pub opened_quiet : (entry : Entry) (method : Method) → Contains p.entries entry → slice_get p.methods entry.method.0 ≡ Some method → (test : ℕ → Bool) (b : Assignment) → IsQuiet method (opened_clauses method test) b
   opened_quiet entry method listed found test b = never_quiet method (opened_clauses method test) b outside
     where
-      code : HasCode method
-      code =
-          let it : IsWholeEntry p entry = All-contains (IsWholeEntry p) p.entries entry whole.entries listed in
-          subst HasCode (same_Some it.method method (sym it.found ∙ found)) it.code
-
       outside : (x : Spot) → is_inside method x ≡ false → opened_clauses method test x ≡ never
       outside (InLocal l) e = ap (λ c. if c then anything else never) (is_false (any_below (λ k. nat_eq (param_local method k) l && test k) (param_count method)) (λ t.
           let r = any_some (λ k. nat_eq (param_local method k) l && test k) (param_count method) t in
           let parts = and_parts (nat_eq (param_local method r.0) l) (test r.0) r.2 in
           let low = local-below (is_member method.flags) (param_types method) r.0 r.1 in
-          let room = (starts_there p whole entry.method.0 method found code).room in
+          let room = (starts_there p whole entry.method.0 method found (entry_code p whole entry method listed found)).room in
           let high = ltb-false l method.locals e in
           let same = eqb-true (param_local method r.0) l parts.0 in
           absurd (omega (arith, low, room, high, same))))
