@@ -6,6 +6,9 @@ use Rattle.std.proofs.lemmas.List.{take_more}
 use Rattle.std.proofs.lemmas.List.Elements.{Contains-append_left, Contains-push, Contains-push_cases}
 use Rattle.ja_explicit.specs.declared.item.Item.{Item}
 use Rattle.ja_explicit.specs.InnerSteps.{has}
+use Rattle.ja_ir.specs.declared.program.Parts.{Parts}
+use Rattle.ja_facts.specs.declared.facts.Facts.{Facts}
+use Rattle.ja_explicit.specs.InnerRounds.{IsTold, IsSound, AreAllIn}
 use Rattle.ja_explicit.proofs.Same.{has_item}
 
 module _ (old mid new items : List Item) (k : ℕ) (item : Item) (flag : Bool) (lt : k < length items) (is : item ≡ get_or items k item) (grows : new ≡ (if flag then mid ++ item ∷ [] else mid)) (there : has new item ≡ true)
@@ -42,3 +45,11 @@ module _ (old mid new items : List Item) (k : ℕ) (item : Item) (flag : Bool) (
   pub nothing_new : (was : Bool) → (was ≡ false → mid ≡ old) → (was || flag) ≡ false → new ≡ old
   nothing_new true h e = absurd (false≢true (sym e))
   nothing_new false h e = grows ∙ ap (λ b. if b then mid ++ item ∷ [] else mid) e ∙ h refl
+
+-- facts that are all in the least solution stay so where such are added
+pub sound_more : (p : Parts) (f : Facts) (old new more : List Item) → IsSound p f old → ((x : Item) → Contains more x → IsTold p f x) → ((x : Item) → Contains new x ↔ (Contains old x ⊎ Contains more x)) → IsSound p f new
+sound_more p f old new more sound told members x h = elim ((members x).0 h) [ inl o ↦ sound x o | inr m ↦ told x m ]
+
+-- where nothing came, what was added was there
+pub all_added : (old new more : List Item) → new ≡ old → ((x : Item) → Contains new x ↔ (Contains old x ⊎ Contains more x)) → AreAllIn old more
+all_added old new more same members x h = subst (λ ys. Contains ys x) same ((members x).1 (inr h))

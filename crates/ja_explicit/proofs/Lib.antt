@@ -11,3 +11,4 @@ pub mod Sound
 pub mod Starting
 pub mod Complete
 pub mod Closed
+pub mod Warned
