@@ -1,6 +1,6 @@
 -- What a rule of clauses makes of a part of what is said of a method.
 use Rattle.std.proofs.Common.{◌≡◌, ◌⊎◌, ℕ, zero, suc, ◌+◌, ◌-◌, ◌*◌, ◌/◌, ◌%◌, ◌<◌, ◌≤◌, Bool, true, false, refl, sym, ap, ◌∙◌, subst, inl, inr, ⊎_elim, arith}
-use Rattle.std.specs.Prelude.{◌↔◌, ◌&&◌, ◌||◌, nat_lt, nat_eq, if◌then◌else◌, Some, slice_get, slice_index}
+use Rattle.std.specs.Prelude.{Result, IfOk, Ok, Err, ◌↔◌, ◌&&◌, ◌||◌, nat_lt, nat_eq, if◌then◌else◌, Some, slice_get, slice_index}
 use Rattle.std.proofs.lemmas.Bool.{and_parts, and_from, lt-ltb, le-ltb, ltb-true, eqb-true, eq-eqb, ne_eqb}
 use Rattle.std.proofs.Math.Logic.{∥∥₁_elim}
 use Rattle.std.proofs.Math.Nat.{ℕ_set}
@@ -221,3 +221,30 @@ shows_step x m frame clauses φ ψ framed inside led_to a b c s fit =
       entry = sym (entry_same frame s.method s.variables after (after_others frame c s.variables outside)) ∙ entry;
       present = after_read frame c s.variables outside;
     }
+
+-- what an answer has
+pub if_ok : {X E : Type 0} (P Q : X → Type 0) → ((y : X) → P y → Q y) → (r : Result X E) → IfOk r P → IfOk r Q
+if_ok P Q h (Ok y) p = h y p
+if_ok P Q h (Err e) p = tt
+
+module _ (x : Problem) (m : ℕ) (frame : Frame) (framed : slice_get x.frames m ≡ Some frame) (clauses : Spot → Clause) (rule : Rule) (is_rule : IsRuleOf frame clauses rule) (from to : Saying x.program (known x)) (leads : LeadFrom x m clauses from to)
+    (φ ψ : Function) (step : IsStep rule φ ψ) (part : IsPartOf x m from φ) where
+  this_frame : (method : Method) (g : Frame) → IsMethod x.program (known x) x.frames m method g → frame ≡ g
+  this_frame method g is = let one : Some frame ≡ Some g = sym framed ∙ is.framed in cc one
+
+  own_set : (method : Method) (g : Frame) → IsMethod x.program (known x) x.frames m method g → IsSet method frame (Says x.program (known x) m from) φ
+  own_set method g is = part.set method frame (subst (λ h. IsMethod x.program (known x) x.frames m method h) (sym (this_frame method g is)) is)
+
+  pub whole_part : IsLow ψ → IsPartOf x m to ψ
+  whole_part low = record {
+    set = λ method g is. subst (λ h. IsSet method h (Says x.program (known x) m to) ψ) (this_frame method g is)
+        (step_set frame clauses φ ψ (led_on frame clauses rule φ ψ is_rule step) x m method from to leads (own_set method g is));
+    low = low;
+  }
+
+  pub some_part : (χ : Function) → MovesPresent frame rule → IsLow χ → LooksAs rule φ χ → IsBelow χ ψ → IsPartOf x m to χ
+  some_part χ moves low looks below = record {
+    set = λ method g is. subst (λ h. IsSet method h (Says x.program (known x) m to) χ) (this_frame method g is)
+        (part_set frame clauses φ ψ (led_on frame clauses rule φ ψ is_rule step) x m method from to leads (own_set method g is) rule χ moves looks below);
+    low = low;
+  }

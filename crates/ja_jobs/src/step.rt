@@ -1,4 +1,4 @@
-ghost use Rattle.std.specs.Prelude.{◌≡◌, Some, IfOk, IfErr, slice_get};
+ghost use Rattle.std.specs.Prelude.{◌≡◌, ◌<◌, Some, IfOk, IfErr, length, slice_get};
 ghost use Rattle.ja_node_core.specs.Node.{Knows};
 ghost use Rattle.ja_node_table.specs.Seats.{aim_of};
 ghost use Rattle.ja_bdd.specs.Functions.{Function};
@@ -40,6 +40,7 @@ pub fn step_over<A: Aim>(
     requires known { Knows (seen worker.old) node.number }
     requires given { IsGiven given.now }
     requires table { IsForWork (problem_of given.now) (A.aims (aim_of table.now)) }
+    requires method { method < length given.now.program.now.methods }
     requires frame { slice_get given.now.frames.now method ≡ Some frame.now }
     requires rule { IsRuleOf frame.now (clauses_of end.now) rule.now }
     requires moves { MovesPresent frame.now rule.now }
