@@ -85,7 +85,7 @@ module _ (frame : Frame) where
       by true e =
           let parts = and_parts (nat_eq (v % 4) 1) (nat_lt (v / 4) (size frame)) e in
           let own : is_own method frame v ≡ true = and_from (nat_lt (v / 4) (size frame)) (nat_eq (v % 4) 1 || (nat_eq (v % 4) 0 && is_param_spot method (spot_at frame (v / 4)))) parts.1
-              (ap (λ c. c || (nat_eq (v % 4) 0 && is_param_spot method (spot_at frame (v / 4)))) parts.0) in
+          (ap (λ c. c || (nat_eq (v % 4) 0 && is_param_spot method (spot_at frame (v / 4)))) parts.0) in
           let f : true ≡ false = sym own ∙ none in
           absurd (cc f)
 
