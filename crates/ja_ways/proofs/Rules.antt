@@ -1,21 +1,17 @@
 -- The ways of names through instructions are the rules of pairs.
-use Rattle.std.proofs.Common.{◌≡◌, ◌≢◌, ◌⊎◌, inl, inr, ℕ, suc, ◌+◌, ◌<◌, Bool, true, false, List, [], ◌∷◌, Option, Some, refl, sym, ap, subst, ◌∙◌, true≢false, arith}
+use Rattle.std.proofs.Common.{◌≡◌, ℕ, Bool, true, false, List, [], ◌∷◌, refl, sym, ap, subst, ◌∙◌, true≢false, arith}
 use Rattle.ja_ir.specs.declared.program.Parts.{Parts}
-use Rattle.ja_ir.specs.declared.method.Method.{Method}
-use Rattle.ja_ir.specs.declared.method.Instr.{Instr}
 use Rattle.ja_ir.specs.declared.row.RowResult.{RowResult}
 use Rattle.ja_ir.specs.declared.row.RowResult.TheVariants.{Fresh, Argument, Member, Any}
 use Rattle.ja_ir.specs.declared.op.CallOp.{CallOp}
 use Rattle.ja_ir.specs.declared.op.Op.{Op}
-use Rattle.ja_ir.specs.declared.op.Op.TheVariants.{ArrLoad, ArrStore, GetStatic, PutStatic, GetField, PutField, New, NewArray, Text}
-use Rattle.ja_ir.specs.Lookup.{Leads, instr_at}
-use Rattle.ja_ir.specs.Operations.{arguments}
+use Rattle.ja_ir.specs.declared.op.Op.TheVariants.{ArrLoad, GetStatic, GetField}
+use Rattle.ja_ir.specs.Lookup.{Leads}
 use Rattle.ja_facts.specs.Least.{Each, IsSolution}
-use Rattle.ja_facts.specs.Slots.{Slot, OnStack, Copies, argument}
-use Rattle.ja_facts.specs.ClassSets.{Fact as ClassFact, IsSource, LeadsFrom}
+use Rattle.ja_facts.specs.Slots.{Slot, OnStack, argument}
+use Rattle.ja_facts.specs.ClassSets.{Fact as ClassFact, LeadsFrom}
 use Rattle.ja_facts.specs.Crossings.{IsHandled, has_result, Crossing, Crosses}
-use Rattle.ja_facts.specs.Sharing.{Root, StaticFields, Name, OfSlot, Statics, Old, Fact, PairAt, PairWithin, Effect, IsLive, live_statics, Keeps, keeps_statics, Stays, Loads, loads_field, loads_element, LoadsStatic, loads_static, Writes, writes_field, writes_element, WritesStatic, writes_static, Makes, makes_text, makes_object, makes_array, root_name, IsRootOf, MeetsItself, IsNoCall, ThrowsNew, new_for_null, Step, LibraryCall, LibraryEnds, ends_normally, ends_by_exception, RaisesNew, raised_here, ThrowsTo, Rule, PairRule, pair_rule, given_effect, IsPair, IsEffect,
-    turned, turned_within, statics_meet, statics_meet_old, run_begins, run_begins_old, entered_begins, entered_begins_old, kept, copied, made, object_loaded, object_loaded_meets, static_loaded, static_loaded_meets, static_loaded_shares, written, static_written, within, absorbed, library_ends, library_throws, library_meets, library_argument, library_argument_meets, library_member, crossing_kept, affected_meets, affected_answer, answer_meets, answer_meets_itself, throws_new, throw_kept, thrown, thrown_meets, written_effect, static_effect, library_effect, entered_effect}
+use Rattle.ja_facts.specs.Sharing.{Root, StaticFields, Name, OfSlot, Statics, Old, Fact, PairAt, PairWithin, Effect, Keeps, keeps_statics, Stays, Loads, loads_field, loads_element, LoadsStatic, loads_static, Writes, writes_field, writes_element, WritesStatic, writes_static, Makes, makes_text, makes_object, makes_array, root_name, IsRootOf, MeetsItself, IsNoCall, new_for_null, Step, LibraryCall, ends_normally, ends_by_exception, RaisesNew, raised_here, ThrowsTo, Rule, PairRule, pair_rule, given_effect, IsPair, IsEffect, turned, turned_within, statics_meet, statics_meet_old, run_begins, run_begins_old, entered_begins, entered_begins_old, kept, copied, made, object_loaded, object_loaded_meets, static_loaded, static_loaded_meets, static_loaded_shares, written, static_written, within, absorbed, library_ends, library_throws, library_meets, library_argument, library_argument_meets, library_member, crossing_kept, affected_meets, affected_answer, answer_meets, answer_meets_itself, throws_new, throw_kept, thrown, thrown_meets, written_effect, static_effect, library_effect, entered_effect}
 use Rattle.ja_ways.specs.Ways.{NoNames, Whole, met, joined, joined_turned, After, carried, anew, anew_turned, StaysAs, stays_as, GoesByOp, goes_kept, goes_loaded, goes_static, AnewByOp, anew_copies, anew_made, anew_loaded, anew_static, anew_statics, JoinedByOp, joined_written, joined_static, AnewThrown, anew_thrown, GoesByThrow, goes_beside, goes_thrown, JoinedByLibrary, joined_absorbed, GoesByAnswer, goes_left, goes_argument, goes_member, AnewByAnswer, anew_answer, JoinedByCrossing, joined_affected, GoesByCrossing, goes_over, goes_answered, AnewByCrossing, anew_answered, IsClosed}
 
 -- an operation that loads writes nothing, and no operation of these is a call
@@ -109,9 +105,9 @@ module _ (p : Parts) (C : ClassFact → Type 0) (E T : Fact → Type 0) where
     turn : (m i : ℕ) (a b : Name) → T (PairAt m i a b) → T (PairAt m i b a)
     turn m i a b h = by (PairAt m i a b ∷ []) (PairAt m i b a) turned tt (h, tt)
 
-    module _ (m i j height : ℕ) (op : Op) (step : Step p C m i j op height) (no : IsNoCall op) where
+    module _ (m i j height : ℕ) (op : Op) (step : Step p C m i j op height) (plain : IsNoCall op) where
       carry-met : {a b c d : Name} → T (PairAt m i a b) → GoesByOp op height a c → GoesByOp op height b d → T (PairAt m j c d)
-      carry-met {a} {b} {c} {d} h (goes_kept k) (goes_kept l) = by (PairAt m i a b ∷ []) (PairAt m j c d) (kept step no k l) tt (h, tt)
+      carry-met {a} {b} {c} {d} h (goes_kept k) (goes_kept l) = by (PairAt m i a b ∷ []) (PairAt m j c d) (kept step plain k l) tt (h, tt)
       carry-met {a} {b} {c} {d} h (goes_kept k) (goes_loaded {x = x} {r = r} l) = turn m j (OfSlot r) c (by (PairAt m i (OfSlot x) a ∷ []) (PairAt m j (OfSlot r) c) (object_loaded step l k) tt (turn m i a b h, tt))
       carry-met {a} {b} {c} {d} h (goes_kept k) (goes_static {r = r} l) = turn m j (OfSlot r) c (by (PairAt m i Statics a ∷ []) (PairAt m j (OfSlot r) c) (static_loaded step l k) tt (turn m i a b h, tt))
       carry-met {a} {b} {c} {d} h (goes_loaded {x = x} {r = r} l) (goes_kept k) = by (PairAt m i (OfSlot x) b ∷ []) (PairAt m j (OfSlot r) d) (object_loaded step l k) tt (h, tt)
@@ -123,13 +119,13 @@ module _ (p : Parts) (C : ClassFact → Type 0) (E T : Fact → Type 0) where
 
       carry-joined : {a b c d : Name} → JoinedByOp op height (λ x y. T (PairAt m i x y)) a b → GoesByOp op height a c → GoesByOp op height b d → T (PairAt m j c d)
       carry-joined {a} {b} {c} {d} (joined_written {x = x} {v = v} w live one two) g h =
-          by (PairAt m i a (OfSlot x) ∷ PairAt m i (OfSlot v) b ∷ []) (PairAt m j c d) (written step w live (kept-only (write-reads-none w) g) (kept-only (write-reads-none w) h)) tt (one, two, tt)
+          by (PairAt m i a (OfSlot x) ∷ PairAt m i (OfSlot v) b ∷ []) (PairAt m j c d) (written step w live (kept-only (write-reads-none w) g) (kept-only (write-reads-none w) h)) tt (one, (two, tt))
       carry-joined {b = b} {c = c} {d = d} (joined_static {v = v} w two) g h =
           subst (λ z. T (PairAt m j z d)) (sym (statics-stay (kept-only (static-write-reads-none w) g)))
           (by (PairAt m i (OfSlot v) b ∷ []) (PairAt m j Statics d) (static_written step w (kept-only (static-write-reads-none w) h)) tt (two, tt))
 
       step-anew : {c d : Name} → AnewByOp op height c d → T (PairAt m j c d)
-      step-anew (anew_copies {x = x} {y = y} one two apart) = by [] (PairAt m j (OfSlot x) (OfSlot y)) (copied step no one two apart) tt tt
+      step-anew (anew_copies {x = x} {y = y} one two apart) = by [] (PairAt m j (OfSlot x) (OfSlot y)) (copied step plain one two apart) tt tt
       step-anew (anew_made {r = r} k) = by [] (PairAt m j (OfSlot r) (OfSlot r)) (made step k) tt tt
       step-anew (anew_loaded {r = r} l) = by [] (PairAt m j (OfSlot r) (OfSlot r)) (object_loaded_meets step l) tt tt
       step-anew (anew_static {r = r} l) = by [] (PairAt m j (OfSlot r) (OfSlot r)) (static_loaded_meets step l) tt tt
@@ -159,7 +155,7 @@ module _ (p : Parts) (C : ClassFact → Type 0) (E T : Fact → Type 0) where
     module _ (m i under : ℕ) (call : CallOp) (library : LibraryCall p C m i call under) where
       join-library : {a b : Name} → JoinedByLibrary call under (λ x y. T (PairAt m i x y)) a b → T (PairWithin m i a b)
       join-library {a} {b} (joined_absorbed x v source lt live one two) =
-          by (PairAt m i a (OfSlot (argument under x)) ∷ PairAt m i (OfSlot (argument under v)) b ∷ []) (PairWithin m i a b) (absorbed x v library source lt live) tt (one, two, tt)
+          by (PairAt m i a (OfSlot (argument under x)) ∷ PairAt m i (OfSlot (argument under v)) b ∷ []) (PairWithin m i a b) (absorbed x v library source lt live) tt (one, (two, tt))
 
       turn-within : (a b : Name) → T (PairWithin m i a b) → T (PairWithin m i b a)
       turn-within a b h = by (PairWithin m i a b ∷ []) (PairWithin m i b a) turned_within tt (h, tt)
@@ -212,7 +208,7 @@ module _ (p : Parts) (C : ClassFact → Type 0) (E T : Fact → Type 0) where
 
       cross-joined : {a b c d : Name} → JoinedByCrossing x (λ s. T (Effect n s)) (λ y z. T (PairAt m i y z)) a b → GoesByCrossing x a c → GoesByCrossing x b d → T (PairAt m x.back c d)
       cross-joined {a} {b} (joined_affected s r one two live changes h k) (goes_over y) (goes_over z) =
-          by (Effect n s ∷ PairAt m i a (root_name x.under s) ∷ PairAt m i b (root_name x.under r) ∷ []) (PairAt m x.back a b) (affected_meets x s r crosses one two live y z) tt (changes, h, k, tt)
+          by (Effect n s ∷ PairAt m i a (root_name x.under s) ∷ PairAt m i b (root_name x.under r) ∷ []) (PairAt m x.back a b) (affected_meets x s r crosses one two live y z) tt (changes, (h, (k, tt)))
       cross-joined {a} (joined_affected s r one two live changes h k) (goes_over y) (goes_answered q has root) = turn m x.back (OfSlot (OnStack x.left)) a (answer a s one has y h)
       cross-joined {b = b} (joined_affected s r one two live changes h k) (goes_answered q has root) (goes_over z) = answer b r two has z k
       cross-joined (joined_affected s r one two live changes h k) (goes_answered q has root) (goes_answered u has2 root2) = answer-itself has
@@ -234,7 +230,7 @@ module _ (p : Parts) (C : ClassFact → Type 0) (E T : Fact → Type 0) where
       run_old = λ m method s r runs is one two. by [] _ (run_begins_old method s r runs is one two) tt tt;
       entered = λ m i n count under method s r enters is one two h. by (PairAt m i (root_name under s) (root_name under r) ∷ []) _ (entered_begins method s r enters is one two) tt (h, tt);
       entered_old = λ m i n count under method s r enters is one two h. by (PairAt m i (root_name under s) (root_name under r) ∷ []) _ (entered_begins_old method s r enters is one two) tt (h, tt);
-      steps = λ m i j height op c d step no after. way-step m i j height op step no after;
+      steps = λ m i j height op c d step plain after. way-step m i j height op step plain after;
       raised = λ m i j c d raises after. way-raised m i j raises after;
       thrown = λ m i j k c d t after. way-thrown m i j k t after;
       within = λ m i under call a b library whole. way-within m i under call library whole;
@@ -254,18 +250,18 @@ module _ (p : Parts) (C : ClassFact → Type 0) (E T : Fact → Type 0) where
     hold ps f (run_begins_old {m = m} method s r runs begins one two) is each = closed.run_old m method s r runs begins one two
     hold ps f (entered_begins {m = m} {i = i} {n = n} {count = count} {under = under} method s r enters begins one two) is each = closed.entered m i n count under method s r enters begins one two each.0
     hold ps f (entered_begins_old {m = m} {i = i} {n = n} {count = count} {under = under} method s r enters begins one two) is each = closed.entered_old m i n count under method s r enters begins one two each.0
-    hold ps f (kept {m = m} {i = i} {j = j} {height = height} {op = op} {c = c} {d = d} step no k l) is each = closed.steps m i j height op c d step no (carried (met each.0) (goes_kept k) (goes_kept l))
-    hold ps f (copied {m = m} {i = i} {j = j} {height = height} {op = op} {x = x} {y = y} step no one two apart) is each = closed.steps m i j height op (OfSlot x) (OfSlot y) step no (anew (anew_copies one two apart))
+    hold ps f (kept {m = m} {i = i} {j = j} {height = height} {op = op} {c = c} {d = d} step plain k l) is each = closed.steps m i j height op c d step plain (carried (met each.0) (goes_kept k) (goes_kept l))
+    hold ps f (copied {m = m} {i = i} {j = j} {height = height} {op = op} {x = x} {y = y} step plain one two apart) is each = closed.steps m i j height op (OfSlot x) (OfSlot y) step plain (anew (anew_copies one two apart))
     hold ps f (made {m = m} {i = i} {j = j} {height = height} {op = op} {r = r} step makes) is each = closed.steps m i j height op (OfSlot r) (OfSlot r) step (makes-no-call makes) (anew (anew_made makes))
     hold ps f (object_loaded {m = m} {i = i} {j = j} {height = height} {op = op} {r = r} {d = d} step loads k) is each = closed.steps m i j height op (OfSlot r) d step (loads-no-call loads) (carried (met each.0) (goes_loaded loads) (goes_kept k))
     hold ps f (object_loaded_meets {m = m} {i = i} {j = j} {height = height} {op = op} {r = r} step loads) is each = closed.steps m i j height op (OfSlot r) (OfSlot r) step (loads-no-call loads) (anew (anew_loaded loads))
     hold ps f (static_loaded {m = m} {i = i} {j = j} {height = height} {op = op} {r = r} {d = d} step loads k) is each = closed.steps m i j height op (OfSlot r) d step (static-no-call loads) (carried (met each.0) (goes_static loads) (goes_kept k))
     hold ps f (static_loaded_meets {m = m} {i = i} {j = j} {height = height} {op = op} {r = r} step loads) is each = closed.steps m i j height op (OfSlot r) (OfSlot r) step (static-no-call loads) (anew (anew_static loads))
     hold ps f (static_loaded_shares {m = m} {i = i} {j = j} {height = height} {op = op} {r = r} step loads) is each = closed.steps m i j height op (OfSlot r) Statics step (static-no-call loads) (anew (anew_statics loads))
-    hold ps f (written {m = m} {i = i} {j = j} {height = height} {op = op} {c = c} {d = d} step writes live k l) is each = closed.steps m i j height op c d step (write-no-call writes) (carried (joined (joined_written writes live each.0 each.1)) (goes_kept k) (goes_kept l))
+    hold ps f (written {m = m} {i = i} {j = j} {height = height} {op = op} {c = c} {d = d} step writes live k l) is each = closed.steps m i j height op c d step (write-no-call writes) (carried (joined (joined_written writes live each.0 each.1.0)) (goes_kept k) (goes_kept l))
     hold ps f (static_written {m = m} {i = i} {j = j} {height = height} {op = op} {d = d} step writes l) is each = closed.steps m i j height op Statics d step (static-write-no-call writes) (carried (joined (joined_static writes each.0)) (goes_kept keeps_statics) (goes_kept l))
     hold ps f (within {m = m} {i = i} {under = under} {call = call} {a = a} {b = b} library) is each = closed.within m i under call a b library (met each.0)
-    hold ps f (absorbed {m = m} {i = i} {under = under} {call = call} {a = a} {b = b} x v library source lt live) is each = closed.within m i under call a b library (joined (joined_absorbed x v source lt live each.0 each.1))
+    hold ps f (absorbed {m = m} {i = i} {under = under} {call = call} {a = a} {b = b} x v library source lt live) is each = closed.within m i under call a b library (joined (joined_absorbed x v source lt live each.0 each.1.0))
     hold ps f (library_ends {m = m} {i = i} {j = j} {a = a} {b = b} (ends_normally {under = under} {call = call} library leads) x y) is each = closed.answered m i j under call a b library leads (carried each.0 (goes_left x) (goes_left y))
     hold ps f (library_ends {m = m} {i = i} {j = j} {a = a} {b = b} (ends_by_exception {under = under} {call = call} library handled) x y) is each = closed.library_thrown m i j under call a b library handled (carried each.0 (stays_as x) (stays_as y))
     hold ps f (library_throws {m = m} {i = i} {j = j} {under = under} {call = call} library handled) is each = closed.library_thrown m i j under call (OfSlot (OnStack 0)) (OfSlot (OnStack 0)) library handled (anew anew_thrown)
@@ -276,8 +272,8 @@ module _ (p : Parts) (C : ClassFact → Type 0) (E T : Fact → Type 0) where
     hold ps f (library_member {m = m} {i = i} {j = j} {under = under} {call = call} {b = b} k answers from y) is each = closed.answered m i j under call (OfSlot (OnStack under)) b answers.library answers.leads (carried each.0 (goes_member k answers.answers from) (goes_left y))
     hold ps f (crossing_kept {m = m} {i = i} {n = n} {a = a} {b = b} x crosses y z) is each = closed.crossed m i n x a b crosses (carried (met each.0) (goes_over y) (goes_over z))
     hold ps f (affected_meets {m = m} {i = i} {n = n} {a = a} {b = b} x s r crosses one two live y z) is each =
-        closed.crossed m i n x a b crosses (carried (joined (joined_affected s r one two live each.0 each.1 each.2)) (goes_over y) (goes_over z))
-    hold ps f (affected_answer {m = m} {i = i} {n = n} {a = a} x s crosses root has live y) is each = closed.crossed m i n x a (OfSlot (OnStack x.left)) crosses (carried (met each.1) (goes_over y) (goes_answered s has root))
+        closed.crossed m i n x a b crosses (carried (joined (joined_affected s r one two live each.0 each.1.0 each.1.1.0)) (goes_over y) (goes_over z))
+    hold ps f (affected_answer {m = m} {i = i} {n = n} {a = a} x s crosses root has live y) is each = closed.crossed m i n x a (OfSlot (OnStack x.left)) crosses (carried (met each.1.0) (goes_over y) (goes_answered s has root))
     hold ps f (answer_meets {m = m} {i = i} {n = n} {b = b} x r crosses root has y) is each =
         closed.crossed m i n x (OfSlot (OnStack x.left)) b crosses (carried (met (closed.turned m i b (root_name x.under r) each.0)) (goes_answered r has root) (goes_over y))
     hold ps f (answer_meets_itself {m = m} {i = i} {n = n} x crosses has) is each = closed.crossed m i n x (OfSlot (OnStack x.left)) (OfSlot (OnStack x.left)) crosses (anew (anew_answered has))
