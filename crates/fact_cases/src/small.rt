@@ -4,7 +4,6 @@ use ja_base::{ClassId, Desc, Memory, Name, NumbersByName, Seq};
 use ja_bytes::method_desc;
 use ja_facts::param_count;
 use ja_ir::Method;
-use ja_matrix::Matrix;
 use ja_sets::{PairSet, TokenSet};
 use std::alloc::Global;
 
@@ -36,10 +35,6 @@ fn add_asked(out: &mut String, alloc: Global, line: &str, words: &[&str]) -> Res
         ["pairs", size, first, second] => {
             let pair = (number_of(first), number_of(second));
             add_pair(out, alloc, line, number_of(size), pair)
-        }
-        ["rows", columns, first, second] => {
-            let pair = (number_of(first), number_of(second));
-            add_rows(out, alloc, line, number_of(columns), pair)
         }
         ["names", noted @ .., asked] => add_numbers(out, alloc, line, noted, asked),
         ["params", flags, desc] => add_params(out, alloc, line, flags, desc),
@@ -81,26 +76,6 @@ fn add_pair(
         return Ok(writeln!(out, "{line}: too large")?);
     }
     Ok(writeln!(out, "{line}: added {}", pairs.add(pair))?)
-}
-
-/// Adds whether a pair is new in an empty table of two rows, and what joining its row with the other one
-/// says and does.
-fn add_rows(
-    out: &mut String,
-    alloc: Global,
-    line: &str,
-    columns: u32,
-    pair: (u32, u32),
-) -> Result<(), Memory> {
-    let mut table = Matrix::new(alloc, 2, columns)?;
-    let other = Matrix::new(alloc, 2, columns)?;
-    if pair.0 >= 2 || pair.1 >= columns {
-        return Ok(writeln!(out, "{line}: too large")?);
-    }
-    let added = table.add(pair.0, pair.1);
-    let joined = table.join_row(pair.0, &other, 0);
-    let there = table.has(pair.0, pair.1);
-    Ok(writeln!(out, "{line}: added {added}, joined {joined}, there {there}")?)
 }
 
 /// Notes a number for a name, if the word is `NAME=NUMBER`.
