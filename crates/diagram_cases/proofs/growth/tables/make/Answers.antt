@@ -1,8 +1,8 @@
 use Rattle.std.proofs.Common.{suc}
 use Rattle.ja_bdd.specs.Workers.{seen}
 use Rattle.ja_bdd.proofs.Sound.{seat_sound}
-use Rattle.grow_cases.proofs.Known.{constant_known}
-use Rattle.grow_cases.proofs.tables.make.Goals as goal
+use Rattle.diagram_cases.proofs.Known.{constant_known}
+use Rattle.diagram_cases.proofs.growth.tables.make.Goals as goal
 
 pub make-requires-clause-known : goal.make-requires-clause-known
 make-requires-clause-known c _ =

@@ -1,6 +1,6 @@
 use Rattle.ja_bdd.specs.Workers.{seen}
-use Rattle.grow_cases.proofs.Known.{roots_kept, roots_more}
-use Rattle.grow_cases.proofs.tables.roots_of.Goals as goal
+use Rattle.diagram_cases.proofs.Known.{roots_kept, roots_more}
+use Rattle.diagram_cases.proofs.growth.tables.roots_of.Goals as goal
 
 pub loop-line-preserved-in_default-make : goal.loop-line-preserved-in_default-make
 loop-line-preserved-in_default-make c =

@@ -10,7 +10,7 @@ use Rattle.ja_bdd.proofs.Sound.{Sound}
 use Rattle.ja_bdd.proofs.Forgetting.{is_constant}
 use Rattle.ja_grow.specs.Grown.{AreSameRoots}
 use Rattle.ja_grow.proofs.Growing.{constant_meant}
-use Rattle.grow_cases.specs.Roots.{AreKnown}
+use Rattle.diagram_cases.specs.Roots.{AreKnown}
 
 -- a constant is known, and looks at no variable
 pub constant_known : (k : Words) → Sound k → (v : ℕ) (n : Node) → n.number < 2 → Knows k n.number × IsFrom v (meaning k n.number)

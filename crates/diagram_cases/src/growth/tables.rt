@@ -4,9 +4,10 @@ ghost use Rattle.ja_base.specs.declared.limit.TheConstants.{MIN_SLOTS, MAX_SLOTS
 ghost use Rattle.ja_node_core.specs.Node.{Knows};
 ghost use Rattle.ja_bdd.specs.Meaning.{Keeps};
 ghost use Rattle.ja_bdd.specs.Workers.{IsWorkerOf, seen};
-ghost use Rattle.grow_cases.specs.Roots.{AreKnown};
+ghost use Rattle.diagram_cases.specs.Roots.{AreKnown};
 
-use crate::grown::{add_grown, grown};
+use crate::growth::grown::{add_grown, grown};
+use crate::nodes::constant;
 use case_text::words_of;
 use ja_base::{MAX_SLOTS, MIN_SLOTS, Memory, Seq};
 use ja_bdd::{Roots, Worker};
@@ -36,12 +37,6 @@ fn asked_of(words: &[&str]) -> Option<Asked>
         }),
         _ => None,
     }
-}
-
-fn constant(value: bool) -> Node
-    ensures { result.number < 2 }
-{
-    if value { Node::TRUE } else { Node::FALSE }
 }
 
 /// The node that a line asks for, where there is room.

@@ -3,7 +3,7 @@ ghost use Rattle.std.specs.Prelude.{◌≤◌, IfOk};
 ghost use Rattle.ja_base.specs.declared.limit.TheConstants.{MIN_SLOTS, MAX_SLOTS};
 ghost use Rattle.ja_node_table.specs.Seats.{IsOf, known};
 ghost use Rattle.ja_bdd.specs.Workers.{IsWorkerOf, seen};
-ghost use Rattle.grow_cases.specs.Roots.{AreKnown};
+ghost use Rattle.diagram_cases.specs.Roots.{AreKnown};
 
 use ja_base::Memory;
 use ja_bdd::{Roots, Worker};
