@@ -1,47 +1,123 @@
-//! Takes cases through writing, reading and lowering, and prints what comes of each.
+//! Takes cases through writing, reading and lowering, and prints what comes of each; and lowers class files, for
+//! measuring and comparing.
 //!
-//! A case is a listing `cases/NAME.txt`, each class of which is the file of its name, and its table is
-//! `cases/NAME.toml`, where there is one, or else the default table. In a listing `{FROM..TO:PART}` stands for
-//! PART with each number from FROM to before TO, where `#` is that number and `%` the next one. For each case, in
-//! byte order of the names, the program prints `== NAME`, and then the text of the program or the line of the
-//! refusal; of a program of more than 1,000 lines, how many are of classes, methods and sink calls. Each case is
-//! lowered as `lower` does it, in one piece and in many, and a line says so where these differ.
+//! Without words the program prints, one after the other, what comes of:
+//!
+//! - `cases`: a case is a listing `cases/NAME.txt`, each class of which is the file of its name, and its table is
+//!   `cases/NAME.toml`, where there is one, or else the default table. For each case, in byte order of the names, it
+//!   prints `== NAME`, and then the text of the program or the line of the refusal; of a program of more than 1,000
+//!   lines, how many are of classes, methods and sink calls. Each case is lowered as `lower` does it, in one piece
+//!   and in many, and a line says so where these differ.
+//! - `verdicts.txt`, which says how its lines are read, with the cases in `verdicts`: the texts that a run writes, and
+//!   programs as one category of marks sees them.
+//! - `orders`: for each listing `== NAME`, and then for each method with code its name and its slots in the order of
+//!   their places: `p` with its number for a local that parameters take, `l` for another local, `s` with the number
+//!   of values under it for a value on the stack, `dirt` and `exc`.
+//! - `readings.txt`, which says how its lines are read: folders in memory that are judged.
+//! - `folders`, as with the words `--folders folders`.
+//!
+//! In a listing `{FROM..TO:PART}` stands for PART with each number from FROM to before TO, where `#` is that number and
+//! `%` the next one. What is done with words is said in `bench`.
+//!
+//! What holds a program or a folder is handed on by reference: each place where a function can end early, while it has
+//! something to let go, makes its proof dearer.
 #![tactic(auto)]
 
-mod case;
+mod bench;
+mod lowering;
+mod orders;
+mod programs;
+mod readings;
+mod verdicts;
 
-use case::case_text;
-use ja_base::{File, Name};
-use std::io;
-use tool_parts::files_in;
+use bench::{folders_text, worded};
+use ja_base::{Files, Memory, Name};
+use lowering::lowered_texts;
+use orders::orders_texts;
+use programs::Cases;
+use readings::readings_text;
+use std::process::ExitCode;
+use std::{fs, io};
+use tool_parts::{files_in, words_of};
+use verdicts::verdicts_text;
 
-/// The bytes of the table of the case with this name.
-fn table_of<'a>(tables: &'a [File], case: &[u8]) -> Option<&'a [u8]> {
-    tables
-        .iter()
-        .find(|table| table.name.bytes().strip_suffix(b".toml") == Some(case))
-        .map(|table| table.bytes.as_slice())
+/// The error for want of memory.
+fn out_of_memory(_memory: Memory) -> io::Error {
+    io::Error::from(io::ErrorKind::OutOfMemory)
 }
 
-fn main(rt: HostRuntime) -> io::Result<()> {
-    let alloc = rt.alloc();
-    let dir = Name::of(alloc, b"cases").map_err(|_| io::Error::from(io::ErrorKind::OutOfMemory))?;
-    let cases = files_in(rt, &dir, b".txt")?;
-    let tables = files_in(rt, &dir, b".toml")?;
-    for case in cases.as_slice() {
-        let name = case.name.bytes().strip_suffix(b".txt").unwrap_or(b"");
-        let text = case_text(
-            &rt,
-            alloc,
-            case.bytes.as_slice(),
-            table_of(tables.as_slice(), name),
-        );
-        println!(rt; "== {}", str::from_utf8(name).unwrap_or("?"))?;
-        print!(rt;
-            "{}",
-            text.as_ref()
-                .map_or("out of memory\n", |text| text.as_str())
-        )?;
+/// The files of a directory whose names end so.
+fn files_of(rt: &HostRuntime, dir: &str, end: &[u8]) -> io::Result<Files> {
+    let dir = Name::of(rt.alloc(), dir.as_bytes()).map_err(out_of_memory)?;
+    files_in(*rt, &dir, end)
+}
+
+/// The cases in a directory.
+fn cases_in(rt: &HostRuntime, dir: &str) -> io::Result<Cases> {
+    let listings = files_of(rt, dir, b".txt")?;
+    let tables = files_of(rt, dir, b".toml")?;
+    Ok(Cases { listings, tables })
+}
+
+/// Prints a text.
+fn print_text(rt: &HostRuntime, text: Result<String, Memory>) -> io::Result<()> {
+    print!(rt;
+        "{}",
+        text.as_ref()
+            .map_or("out of memory\n", |text| text.as_str())
+    )
+}
+
+/// Prints what comes of the cases that are lowered.
+fn print_lowered(rt: &HostRuntime) -> io::Result<()> {
+    let cases = cases_in(rt, "cases")?;
+    print_text(rt, lowered_texts(rt, rt.alloc(), &cases))
+}
+
+/// Prints the texts of a run.
+fn print_verdicts(rt: &HostRuntime) -> io::Result<()> {
+    let cases = cases_in(rt, "verdicts")?;
+    let text = fs::read_to_string(rt, "verdicts.txt")?;
+    print_text(rt, verdicts_text(rt, rt.alloc(), &cases, text.as_str()))
+}
+
+/// Prints orders.
+fn print_orders(rt: &HostRuntime) -> io::Result<()> {
+    let cases = files_of(rt, "orders", b".txt")?;
+    print_text(rt, orders_texts(rt, rt.alloc(), cases.as_slice()))
+}
+
+/// Prints what comes of folders in memory.
+fn print_readings(rt: &HostRuntime) -> io::Result<()> {
+    let text = fs::read_to_string(rt, "readings.txt")?;
+    print_text(rt, readings_text(rt, rt.alloc(), text.as_str()))
+}
+
+/// Prints what comes of class files in folders.
+fn print_folders(rt: &HostRuntime) -> io::Result<()> {
+    let dir = Name::of(rt.alloc(), b"folders").map_err(out_of_memory)?;
+    print_text(rt, folders_text(rt, &dir))
+}
+
+/// Prints what comes of all that is stored.
+fn print_stored(rt: &HostRuntime) -> io::Result<()> {
+    print_lowered(rt)?;
+    print_verdicts(rt)?;
+    print_orders(rt)?;
+    print_readings(rt)?;
+    print_folders(rt)
+}
+
+/// Does what the words say, and answers the status.
+fn run(rt: &HostRuntime) -> io::Result<u8> {
+    let words = words_of(rt)?;
+    if words.is_empty() {
+        print_stored(rt)?;
+        return Ok(0);
     }
-    Ok(())
+    worded(rt, words.as_slice())
+}
+
+fn main(rt: HostRuntime) -> io::Result<ExitCode> {
+    Ok(ExitCode::from(run(&rt)?))
 }

@@ -1,8 +1,9 @@
 //! Each class as a folder of its own.
-use crate::outcome::{Outcome, outcome_of};
+use crate::bench::outcome::{Outcome, outcome_of};
 use ja_base::{File, Memory};
 use ja_lib::Table;
-use std::alloc::Global;
+use ja_lower::LowerFault;
+use std::alloc::{AllocError, Global};
 use std::slice;
 use std::thread::Threads;
 use tool_parts::ClassFolder;
@@ -47,14 +48,38 @@ fn counted<R: Threads + Sync>(
     file: &File,
     table: &Table,
 ) -> Result<Tally, Memory> {
-    let mut tally = tally;
-    match outcome_of(rt, alloc, slice::from_ref(file), table)? {
+    let outcome = outcome_of(rt, alloc, slice::from_ref(file), table);
+    with_outcome(alloc, tally, file, outcome)
+}
+
+/// The counts with what came of one more file.
+fn with_outcome(
+    alloc: Global,
+    mut tally: Tally,
+    file: &File,
+    outcome: Outcome,
+) -> Result<Tally, Memory> {
+    match outcome {
         Outcome::Unread => tally.unread = tally.unread.saturating_add(1),
-        Outcome::Refused(refusal) => {
+        Outcome::Came(Ok(_program)) => tally.lowered = tally.lowered.with_file(alloc, file)?,
+        Outcome::Came(Err(LowerFault::Refused(refusal))) => {
             let number = refusal.number() as usize;
             tally.refused[number] = tally.refused[number].saturating_add(1);
         }
-        Outcome::Lowered(_) => tally.lowered = tally.lowered.with_file(alloc, file)?,
+        Outcome::Came(Err(LowerFault::Memory)) => return Err(Memory),
     }
     Ok(tally)
+}
+
+/// Adds the counts.
+pub fn add_tally(out: &mut String, tally: &Tally) -> Result<(), AllocError> {
+    writeln!(out, "unread {}", tally.unread)?;
+    writeln!(out, "lowered {}", tally.lowered.len())?;
+    for number in 0..NUMBERS {
+        let count = tally.refused[number];
+        if count > 0 {
+            writeln!(out, "refused {number} classes {count}")?;
+        }
+    }
+    Ok(())
 }

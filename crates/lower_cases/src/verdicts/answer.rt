@@ -1,8 +1,10 @@
 //! What lines ask for.
-use crate::program::{Cases, program_of, projected_text};
-use crate::refusal::refusal_text;
-use crate::report::{line_text, report_text, status_text, text_of_bytes, total_text};
-use crate::words::{name_of, number_of, small_of};
+use crate::programs::{Cases, bytes_of, program_of, table_of};
+use crate::verdicts::refusal::refusal_text;
+use crate::verdicts::report::{
+    line_text, projected_text, report_text, status_text, text_of_bytes, total_text,
+};
+use crate::verdicts::words::{name_of, number_of, small_of};
 use case_text::words_of;
 use ja_base::Memory;
 use ja_ir::Program;
@@ -21,12 +23,36 @@ pub fn told<R: Threads + Sync>(
     let words = words_of(alloc, line)?;
     match words.as_slice() {
         ["refusal", name, fields @ ..] => refusal_text(alloc, name, fields),
-        ["of", case, asked @ ..] => match program_of(rt, alloc, cases, case) {
-            Some(program) => about(alloc, &program, asked),
-            None => Ok(String::from_str(alloc, "no program\n")?),
-        },
+        ["of", case, asked @ ..] => of_case(rt, alloc, cases, case, asked),
         words => plain(alloc, words),
     }
+}
+
+/// What is asked for that is about the program of a case.
+fn of_case<R: Threads + Sync>(
+    rt: &R,
+    alloc: Global,
+    cases: &Cases,
+    case: &str,
+    asked: &[&str],
+) -> Result<String, Memory> {
+    match program_of_case(rt, alloc, cases, case) {
+        Some(program) => about(alloc, &program, asked),
+        None => Ok(String::from_str(alloc, "no program\n")?),
+    }
+}
+
+/// The program of a case, if it makes one.
+fn program_of_case<R: Threads + Sync>(
+    rt: &R,
+    alloc: Global,
+    cases: &Cases,
+    case: &str,
+) -> Option<Program> {
+    let case = case.as_bytes();
+    let listing = bytes_of(cases.listings.as_slice(), case, b".txt")?;
+    let table = table_of(alloc, bytes_of(cases.tables.as_slice(), case, b".toml")).ok()?;
+    program_of(rt, alloc, listing, &table)
 }
 
 /// What is asked for that is about no program.

@@ -1,5 +1,7 @@
-//! The cases of the input.
-use crate::files::{asked_in, fails_of, files_of, lines_of};
+//! Folders in memory that are judged.
+mod files;
+
+use files::{asked_in, fails_of, files_of, lines_of};
 use ja_base::{Files, Memory, Name};
 use ja_io::{MemFolder, has_distinct_names};
 use ja_ir::Program;
@@ -9,7 +11,11 @@ use std::thread::Threads;
 use tool_parts::{ListingFault, text_of, text_of_refusal};
 
 /// What comes of the cases of the input, which empty lines part.
-pub fn cases_text<R: Threads + Sync>(rt: &R, alloc: Global, text: &str) -> Result<String, Memory> {
+pub fn readings_text<R: Threads + Sync>(
+    rt: &R,
+    alloc: Global,
+    text: &str,
+) -> Result<String, Memory> {
     let mut out = String::new(alloc);
     for part in text.split("\n\n") {
         let lines = lines_of(alloc, part)?;
@@ -44,14 +50,21 @@ fn add_folder<R: Threads + Sync>(
     files: Files,
     lines: &[&str],
 ) -> Result<(), Memory> {
-    if !has_distinct_names(files.as_slice()) {
+    let Some(mut folder) = folder_of(alloc, files, lines)? else {
         return Ok(writeln!(out, "two files of one name")?);
+    };
+    let text = judged_text(rt, alloc, &mut folder, asked_in(lines))?;
+    Ok(out.push_str(text.as_str())?)
+}
+
+/// A folder `d` of files, whose calls fail as the lines say, unless two files have one name.
+fn folder_of(alloc: Global, files: Files, lines: &[&str]) -> Result<Option<MemFolder>, Memory> {
+    if !has_distinct_names(files.as_slice()) {
+        return Ok(None);
     }
     let fails = fails_of(alloc, lines)?;
-    let mut folder = MemFolder::new(Name::of(alloc, b"d")?, files, fails);
-    let asked = Name::of(alloc, asked_in(lines).as_bytes())?;
-    let text = judged_text(rt, alloc, &mut folder, &asked)?;
-    Ok(out.push_str(text.as_str())?)
+    let name = Name::of(alloc, b"d")?;
+    Ok(Some(MemFolder::new(name, files, fails)))
 }
 
 /// What comes of a folder, as text.
@@ -59,9 +72,10 @@ fn judged_text<R: Threads + Sync>(
     rt: &R,
     alloc: Global,
     folder: &mut MemFolder,
-    asked: &Name,
+    asked: &str,
 ) -> Result<String, Memory> {
-    match judge_folder(rt, alloc, folder, asked) {
+    let asked = Name::of(alloc, asked.as_bytes())?;
+    match judge_folder(rt, alloc, folder, &asked) {
         Ok(judgement) => judgement_text(alloc, &judgement),
         Err(ReadingFault::Folder) => Ok("folder fault\n".to_string(alloc)?),
         Err(ReadingFault::Memory) => Err(Memory),
@@ -79,9 +93,14 @@ fn judgement_text(alloc: Global, judgement: &Judgement) -> Result<String, Memory
 /// `accepted` and the lines of a program's categories, classes, entries and sink calls.
 fn program_text(alloc: Global, program: &Program) -> Result<String, Memory> {
     let text = text_of(alloc, program)?;
+    heads_text(alloc, text.as_str())
+}
+
+/// `accepted` and the lines of a program's text that are no parts of what stands above them.
+fn heads_text(alloc: Global, text: &str) -> Result<String, Memory> {
     let mut out = String::new(alloc);
     writeln!(out, "accepted")?;
-    for line in text.as_str().lines() {
+    for line in text.lines() {
         if is_head(line) {
             writeln!(out, "{line}")?;
         }

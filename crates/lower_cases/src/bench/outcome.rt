@@ -12,8 +12,7 @@ use tool_parts::{ClassFolder, text_of, text_of_refusal};
 pub enum Outcome {
     /// None of them was read as a class.
     Unread,
-    Refused(Refusal),
-    Lowered(Program),
+    Came(Result<Program, LowerFault>),
 }
 
 /// What comes of files as one folder.
@@ -22,29 +21,23 @@ pub fn outcome_of<R: Threads + Sync>(
     alloc: Global,
     files: &[File],
     table: &Table,
-) -> Result<Outcome, Memory> {
-    let folder = ClassFolder::new(alloc).with_files(alloc, files)?;
-    if folder.is_empty() && !files.is_empty() {
-        return Ok(Outcome::Unread);
-    }
-    match folder.lower(rt, alloc, table) {
-        Ok(program) => Ok(Outcome::Lowered(program)),
-        Err(LowerFault::Refused(refusal)) => Ok(Outcome::Refused(refusal)),
-        Err(LowerFault::Memory) => Err(Memory),
+) -> Outcome {
+    match ClassFolder::new(alloc).with_files(alloc, files) {
+        Ok(folder) if folder.is_empty() && !files.is_empty() => Outcome::Unread,
+        Ok(folder) => Outcome::Came(folder.lower(rt, alloc, table)),
+        Err(Memory) => Outcome::Came(Err(LowerFault::Memory)),
     }
 }
 
-/// What comes of files as one folder, as lines.
-pub fn outcome_text<R: Threads + Sync>(
-    rt: &R,
+/// What came of a folder, as lines: the text of the program, or the line of the refusal.
+pub fn text_of_outcome(
     alloc: Global,
-    files: &[File],
-    table: &Table,
+    outcome: Result<Program, LowerFault>,
 ) -> Result<String, Memory> {
-    match outcome_of(rt, alloc, files, table)? {
-        Outcome::Unread => Ok(String::from_str(alloc, "unread\n")?),
-        Outcome::Refused(refusal) => text_of_refusal(alloc, &refusal),
-        Outcome::Lowered(program) => text_of(alloc, &program),
+    match outcome {
+        Ok(program) => text_of(alloc, &program),
+        Err(LowerFault::Refused(refusal)) => text_of_refusal(alloc, &refusal),
+        Err(LowerFault::Memory) => Err(Memory),
     }
 }
 

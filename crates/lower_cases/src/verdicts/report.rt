@@ -1,9 +1,13 @@
-//! Texts about sink calls.
-use crate::words::{flags_of, small_of};
-use ja_base::{Bytes, Flags, Memory, SiteId};
+//! Texts about sink calls and about categories of marks.
+ghost use Rattle.std.specs.Prelude.{◌≡◌};
+ghost use Rattle.ja_ir.specs.Categories.{count_of_names};
+
+use crate::verdicts::words::{flags_of, small_of};
+use ja_base::{Bytes, Memory, Name, SiteId};
 use ja_ir::Program;
 use ja_verdict::{line_of, report, status, total_report};
 use std::alloc::Global;
+use tool_parts::text_of;
 
 /// Bytes as a text.
 pub fn text_of_bytes(alloc: Global, bytes: Bytes) -> Result<String, Memory> {
@@ -51,4 +55,23 @@ pub fn line_text(
 pub fn status_text(alloc: Global, word: &str) -> Result<String, Memory> {
     let flags = flags_of(alloc, word)?;
     Ok(format!(in alloc; "{}\n", status(&flags))?)
+}
+
+/// The number of categories of marks that have these names.
+fn count_of(names: &[Name]) -> u64
+    ensures { result ≡ count_of_names names.now }
+{
+    match names {
+        [] => 1,
+        [_first, others @ ..] => others.len() as u64 + 1,
+    }
+}
+
+/// The text of a program as a category of marks sees it.
+pub fn projected_text(alloc: Global, program: &Program, category: u32) -> Result<String, Memory> {
+    if u64::from(category) >= count_of(program.categories().as_slice()) {
+        return Ok(String::from_str(alloc, "no category\n")?);
+    }
+    let projected = program.project(alloc, category)?;
+    text_of(alloc, &projected)
 }

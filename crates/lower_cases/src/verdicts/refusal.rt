@@ -1,5 +1,5 @@
 //! Refusals.
-use crate::words::{byte_of, name_of, number_of, small_of};
+use crate::verdicts::words::{byte_of, name_of, number_of, small_of};
 use ja_base::{Memory, Name, Refusal};
 use std::alloc::Global;
 use tool_parts::text_of_refusal;

@@ -1,10 +1,10 @@
 //! Classes as one folder.
-use crate::outcome::file_of;
-use ja_base::{Memory, Name};
+use crate::bench::outcome::file_of;
+use ja_base::{Memory, Name, Refusal};
 use ja_ir::Program;
 use ja_lib::Table;
 use ja_lower::LowerFault;
-use std::alloc::Global;
+use std::alloc::{AllocError, Global};
 use std::thread::Threads;
 use tool_parts::ClassFolder;
 
@@ -34,14 +34,20 @@ pub fn lower_together<R: Threads + Sync>(
                     left_out: left_out as u64,
                 }));
             }
-            Err(LowerFault::Refused(refusal)) => {
-                let place = file_of(&refusal).and_then(|file| place_of(&folder, file));
-                folder = folder.without(place.unwrap_or(0));
-            }
+            Err(LowerFault::Refused(refusal)) => folder = without_refused(folder, &refusal),
             Err(LowerFault::Memory) => return Err(Memory),
         }
     }
     Ok(None)
+}
+
+/// A folder without the class on whose account it is refused, or else without the first one.
+fn without_refused(folder: ClassFolder, refusal: &Refusal) -> ClassFolder {
+    let place = match file_of(refusal) {
+        Some(file) => place_of(&folder, file).unwrap_or(0),
+        None => 0,
+    };
+    folder.without(place)
 }
 
 /// The place of the class with a file of this name.
@@ -54,10 +60,22 @@ fn place_of(folder: &ClassFolder, file: &Name) -> Option<usize> {
 }
 
 /// The number of instructions of a program.
-pub fn instructions(program: &Program) -> u64 {
+fn instructions(program: &Program) -> u64 {
     let mut count = 0u64;
     for method in program.methods().as_slice() {
         count = count.saturating_add(method.code.len());
     }
     count
+}
+
+/// Adds the counts of a folder that is lowered.
+pub fn add_whole(out: &mut String, whole: &Whole) -> Result<(), AllocError> {
+    writeln!(
+        out,
+        "left out {} classes {} methods {} instructions {}",
+        whole.left_out,
+        whole.program.classes().len(),
+        whole.program.methods().len(),
+        instructions(&whole.program)
+    )
 }
