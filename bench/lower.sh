@@ -5,7 +5,7 @@
 # Usage: bench/lower.sh [ROUNDS]
 . "$(dirname "$0")/common.sh"
 rounds=${1:-10}
-lowerer=$(program lower_bench)
+lowerer=$(program lower_cases)
 cd "$work"
 "$top/bench/real_classes.sh" .
 

@@ -13,7 +13,7 @@ mod together;
 
 use crate::out_of_memory;
 use count::{Tally, add_tally, tally_of};
-use ja_base::{File, Files, Memory, Name};
+use ja_base::{File, Files, Memory, Name, Names};
 use ja_lib::{Table, default_table};
 pub use outcome::text_of_outcome;
 use outcome::{Outcome, outcome_of};
@@ -26,8 +26,8 @@ use together::{Whole, add_whole, lower_together};
 use tool_parts::{files_in, folders_in};
 
 /// How many rounds were refused, and how long all took.
-fn rounds_of(
-    rt: &HostRuntime,
+fn rounds_of<R: Runtime + AllocGlobal + Threads + Sync>(
+    rt: &R,
     whole: &Whole,
     table: &Table,
     rounds: u64,
@@ -56,7 +56,12 @@ fn refused_of<R: Threads + Sync>(
 }
 
 /// Lowers a folder so many times and prints the nanoseconds.
-fn print_rounds(rt: &HostRuntime, whole: &Whole, table: &Table, rounds: u64) -> io::Result<()> {
+fn print_rounds<R: Runtime + AllocGlobal + Threads + Sync>(
+    rt: &R,
+    whole: &Whole,
+    table: &Table,
+    rounds: u64,
+) -> io::Result<()> {
     if rounds == 0 {
         return Ok(());
     }
@@ -65,7 +70,12 @@ fn print_rounds(rt: &HostRuntime, whole: &Whole, table: &Table, rounds: u64) -> 
 }
 
 /// Prints what comes of all classes that are lowered together, and how long so many rounds take.
-fn print_whole(rt: &HostRuntime, whole: &Whole, table: &Table, rounds: u64) -> io::Result<()> {
+fn print_whole<R: Runtime + AllocGlobal + Threads + Sync>(
+    rt: &R,
+    whole: &Whole,
+    table: &Table,
+    rounds: u64,
+) -> io::Result<()> {
     let mut out = String::new(rt.alloc());
     add_whole(&mut out, whole)?;
     print!(rt; "{out}")?;
@@ -73,14 +83,19 @@ fn print_whole(rt: &HostRuntime, whole: &Whole, table: &Table, rounds: u64) -> i
 }
 
 /// Prints the counts of what came of files.
-fn print_tally(rt: &HostRuntime, tally: &Tally) -> io::Result<()> {
+fn print_tally<R: Runtime + AllocGlobal>(rt: &R, tally: &Tally) -> io::Result<()> {
     let mut out = String::new(rt.alloc());
     add_tally(&mut out, tally)?;
     print!(rt; "{out}")
 }
 
 /// Counts outcomes, and measures how long all classes that are lowered take together.
-fn measure(rt: &HostRuntime, files: &[File], table: &Table, rounds: u64) -> io::Result<()> {
+fn measure<R: Runtime + AllocGlobal + Threads + Sync>(
+    rt: &R,
+    files: &[File],
+    table: &Table,
+    rounds: u64,
+) -> io::Result<()> {
     let tally = tally_of(rt, rt.alloc(), files, table).map_err(out_of_memory)?;
     print_tally(rt, &tally)?;
     match lower_together(rt, rt.alloc(), tally.lowered, table).map_err(out_of_memory)? {
@@ -146,20 +161,24 @@ fn below(alloc: Global, dir: &Name, name: &Name) -> Result<Name, Memory> {
 }
 
 /// The class files below a directory.
-fn class_files(rt: &HostRuntime, dir: &Name) -> io::Result<Files> {
-    files_in(*rt, dir, b".class")
+fn class_files<R: Runtime + AllocGlobal>(rt: &R, dir: &Name) -> io::Result<Files> {
+    files_in(rt.clone()?, dir, b".class")
 }
 
 /// The class files of a folder that lies in a directory.
-fn files_below(rt: &HostRuntime, dir: &Name, folder: &Name) -> Result<Files, Memory> {
+fn files_below<R: Runtime + AllocGlobal>(
+    rt: &R,
+    dir: &Name,
+    folder: &Name,
+) -> Result<Files, Memory> {
     let path = below(rt.alloc(), dir, folder)?;
     class_files(rt, &path).map_err(|_| Memory)
 }
 
 /// Adds what comes of a folder that lies in a directory.
-fn add_folder(
+fn add_folder<R: Runtime + AllocGlobal + Threads + Sync>(
     out: &mut String,
-    rt: &HostRuntime,
+    rt: &R,
     dir: &Name,
     folder: &Name,
     table: &Table,
@@ -169,7 +188,11 @@ fn add_folder(
 }
 
 /// What comes of each of these folders, which lie in a directory.
-fn all_text(rt: &HostRuntime, dir: &Name, folders: &[Name]) -> Result<String, Memory> {
+fn all_text<R: Runtime + AllocGlobal + Threads + Sync>(
+    rt: &R,
+    dir: &Name,
+    folders: &[Name],
+) -> Result<String, Memory> {
     let table = default_table(rt.alloc())?;
     let mut out = String::new(rt.alloc());
     for folder in folders {
@@ -178,26 +201,42 @@ fn all_text(rt: &HostRuntime, dir: &Name, folders: &[Name]) -> Result<String, Me
     Ok(out)
 }
 
+/// The names of the folders that lie in a directory.
+fn names_of_folders<R: Runtime + AllocGlobal>(rt: &R, dir: &Name) -> io::Result<Names> {
+    folders_in(rt.clone()?, dir)
+}
+
 /// What comes of each folder that lies in a directory. A directory that cannot be read is told as want of memory.
-pub fn folders_text(rt: &HostRuntime, dir: &Name) -> Result<String, Memory> {
-    let folders = folders_in(*rt, dir).map_err(|_| Memory)?;
+pub fn folders_text<R: Runtime + AllocGlobal + Threads + Sync>(
+    rt: &R,
+    dir: &Name,
+) -> Result<String, Memory> {
+    let folders = names_of_folders(rt, dir).map_err(|_| Memory)?;
     all_text(rt, dir, folders.as_slice())
 }
 
 /// Prints what comes of each file as a folder of its own.
-fn print_each(rt: &HostRuntime, files: &[File], table: &Table) -> io::Result<()> {
+fn print_each<R: Runtime + AllocGlobal + Threads + Sync>(
+    rt: &R,
+    files: &[File],
+    table: &Table,
+) -> io::Result<()> {
     let text = each_text(rt, rt.alloc(), files, table).map_err(out_of_memory)?;
     print!(rt; "{text}")
 }
 
 /// Prints what comes of each folder that lies in a directory.
-fn print_folders(rt: &HostRuntime, dir: &Name) -> io::Result<()> {
+fn print_folders<R: Runtime + AllocGlobal + Threads + Sync>(rt: &R, dir: &Name) -> io::Result<()> {
     let text = folders_text(rt, dir).map_err(out_of_memory)?;
     print!(rt; "{text}")
 }
 
 /// Does a task with the class files of a directory.
-fn done(rt: &HostRuntime, task: Task, dir: &Name) -> io::Result<()> {
+fn done<R: Runtime + AllocGlobal + Threads + Sync>(
+    rt: &R,
+    task: Task,
+    dir: &Name,
+) -> io::Result<()> {
     let table = default_table(rt.alloc()).map_err(out_of_memory)?;
     match task {
         Task::Measure { rounds } => measure(rt, class_files(rt, dir)?.as_slice(), &table, rounds),
@@ -207,7 +246,7 @@ fn done(rt: &HostRuntime, task: Task, dir: &Name) -> io::Result<()> {
 }
 
 /// Does what words say, and answers the status.
-pub fn worded(rt: &HostRuntime, words: &[Name]) -> io::Result<u8> {
+pub fn worded<R: Runtime + AllocGlobal + Threads + Sync>(rt: &R, words: &[Name]) -> io::Result<u8> {
     match task_of(words) {
         Some((task, dir)) => {
             done(rt, task, dir)?;

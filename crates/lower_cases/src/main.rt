@@ -37,6 +37,8 @@ use orders::orders_texts;
 use programs::Cases;
 use readings::readings_text;
 use std::process::ExitCode;
+use std::rt::Runtime;
+use std::thread::Threads;
 use std::{fs, io};
 use tool_parts::{files_in, words_of};
 use verdicts::verdicts_text;
@@ -47,20 +49,20 @@ fn out_of_memory(_memory: Memory) -> io::Error {
 }
 
 /// The files of a directory whose names end so.
-fn files_of(rt: &HostRuntime, dir: &str, end: &[u8]) -> io::Result<Files> {
+fn files_of<R: Runtime + AllocGlobal>(rt: &R, dir: &str, end: &[u8]) -> io::Result<Files> {
     let dir = Name::of(rt.alloc(), dir.as_bytes()).map_err(out_of_memory)?;
-    files_in(*rt, &dir, end)
+    files_in(rt.clone()?, &dir, end)
 }
 
 /// The cases in a directory.
-fn cases_in(rt: &HostRuntime, dir: &str) -> io::Result<Cases> {
+fn cases_in<R: Runtime + AllocGlobal>(rt: &R, dir: &str) -> io::Result<Cases> {
     let listings = files_of(rt, dir, b".txt")?;
     let tables = files_of(rt, dir, b".toml")?;
     Ok(Cases { listings, tables })
 }
 
 /// Prints a text.
-fn print_text(rt: &HostRuntime, text: Result<String, Memory>) -> io::Result<()> {
+fn print_text<R: Runtime>(rt: &R, text: Result<String, Memory>) -> io::Result<()> {
     print!(rt;
         "{}",
         text.as_ref()
@@ -69,38 +71,38 @@ fn print_text(rt: &HostRuntime, text: Result<String, Memory>) -> io::Result<()> 
 }
 
 /// Prints what comes of the cases that are lowered.
-fn print_lowered(rt: &HostRuntime) -> io::Result<()> {
+fn print_lowered<R: Runtime + AllocGlobal + Threads + Sync>(rt: &R) -> io::Result<()> {
     let cases = cases_in(rt, "cases")?;
     print_text(rt, lowered_texts(rt, rt.alloc(), &cases))
 }
 
 /// Prints the texts of a run.
-fn print_verdicts(rt: &HostRuntime) -> io::Result<()> {
+fn print_verdicts<R: Runtime + AllocGlobal + Threads + Sync>(rt: &R) -> io::Result<()> {
     let cases = cases_in(rt, "verdicts")?;
     let text = fs::read_to_string(rt, "verdicts.txt")?;
     print_text(rt, verdicts_text(rt, rt.alloc(), &cases, text.as_str()))
 }
 
 /// Prints orders.
-fn print_orders(rt: &HostRuntime) -> io::Result<()> {
+fn print_orders<R: Runtime + AllocGlobal + Threads + Sync>(rt: &R) -> io::Result<()> {
     let cases = files_of(rt, "orders", b".txt")?;
     print_text(rt, orders_texts(rt, rt.alloc(), cases.as_slice()))
 }
 
 /// Prints what comes of folders in memory.
-fn print_readings(rt: &HostRuntime) -> io::Result<()> {
+fn print_readings<R: Runtime + AllocGlobal + Threads + Sync>(rt: &R) -> io::Result<()> {
     let text = fs::read_to_string(rt, "readings.txt")?;
     print_text(rt, readings_text(rt, rt.alloc(), text.as_str()))
 }
 
 /// Prints what comes of class files in folders.
-fn print_folders(rt: &HostRuntime) -> io::Result<()> {
+fn print_folders<R: Runtime + AllocGlobal + Threads + Sync>(rt: &R) -> io::Result<()> {
     let dir = Name::of(rt.alloc(), b"folders").map_err(out_of_memory)?;
     print_text(rt, folders_text(rt, &dir))
 }
 
 /// Prints what comes of all that is stored.
-fn print_stored(rt: &HostRuntime) -> io::Result<()> {
+fn print_stored<R: Runtime + AllocGlobal + Threads + Sync>(rt: &R) -> io::Result<()> {
     print_lowered(rt)?;
     print_verdicts(rt)?;
     print_orders(rt)?;
@@ -109,7 +111,7 @@ fn print_stored(rt: &HostRuntime) -> io::Result<()> {
 }
 
 /// Does what the words say, and answers the status.
-fn run(rt: &HostRuntime) -> io::Result<u8> {
+fn run<R: Runtime + AllocGlobal + Threads + Sync>(rt: &R) -> io::Result<u8> {
     let words = words_of(rt)?;
     if words.is_empty() {
         print_stored(rt)?;
