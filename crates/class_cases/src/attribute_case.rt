@@ -23,9 +23,26 @@ pub fn add_attributes(
     text: &str,
 ) -> Result<(), CaseFault> {
     let (name, spelled) = parted(text);
-    let pool = pool_of(alloc, kept_bytes(kept, name)?)?;
     let bytes = bytes_of(alloc, kept, spelled)?;
-    let mut c = Cursor::new(bytes.as_slice());
+    add_over(
+        alloc,
+        out,
+        kept_bytes(kept, name)?,
+        command,
+        bytes.as_slice(),
+    )
+}
+
+/// Adds what comes of attributes over the pool of these bytes.
+fn add_over(
+    alloc: Global,
+    out: &mut String,
+    pool: &[u8],
+    command: &str,
+    bytes: &[u8],
+) -> Result<(), CaseFault> {
+    let pool = pool_of(alloc, pool)?;
+    let mut c = Cursor::new(bytes);
     match command {
         "skip" => add_skip(out, &pool, &mut c),
         "value" => add_value(out, &pool, &mut c),

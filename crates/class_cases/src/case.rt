@@ -89,18 +89,27 @@ fn bytes_answer(
     text: &str,
 ) -> Result<String, CaseFault> {
     let mut out = String::new(alloc);
-    match command {
-        "pool" | "entries" => add_pool_case(alloc, &mut out, kept, command, text)?,
-        "code" => add_code(alloc, &mut out, kept, text)?,
-        "opcode" => add_opcode(&mut out, text)?,
-        "mnemonic" => add_mnemonic(&mut out, text)?,
-        "skip" | "value" | "body" | "no_body" => {
-            add_attributes(alloc, &mut out, kept, command, text)?
-        }
-        "generated" => add_generated(alloc, &mut out, text)?,
-        _ => add_of_words(alloc, &mut out, kept, command, text)?,
-    }
+    add_bytes_case(alloc, &mut out, kept, command, text)?;
     Ok(out)
+}
+
+/// Adds what comes of a case that works on bytes.
+fn add_bytes_case(
+    alloc: Global,
+    out: &mut String,
+    kept: &[File],
+    command: &str,
+    text: &str,
+) -> Result<(), CaseFault> {
+    match command {
+        "pool" | "entries" => add_pool_case(alloc, out, kept, command, text),
+        "code" => add_code(alloc, out, kept, text),
+        "opcode" => add_opcode(out, text),
+        "mnemonic" => add_mnemonic(out, text),
+        "skip" | "value" | "body" | "no_body" => add_attributes(alloc, out, kept, command, text),
+        "generated" => add_generated(alloc, out, text),
+        _ => add_of_words(alloc, out, kept, command, text),
+    }
 }
 
 /// Adds what comes of a case that works on the bytes that all its words spell.

@@ -24,9 +24,8 @@ fn next_row(c: &mut Cursor<'_>) -> Result<RawHandler, End> {
     })
 }
 
-/// The rows of an exception table, each of eight bytes.
-fn rows_of(alloc: Global, bytes: &[u8]) -> Result<Vec<RawHandler>, CaseFault> {
-    let mut rows = Vec::new(alloc);
+/// Adds the rows of an exception table, each of eight bytes.
+fn add_rows(rows: &mut Vec<RawHandler>, bytes: &[u8]) -> Result<(), CaseFault> {
     let mut c = Cursor::new(bytes);
     for _ in 0..bytes.len() / 8 {
         match next_row(&mut c) {
@@ -34,7 +33,20 @@ fn rows_of(alloc: Global, bytes: &[u8]) -> Result<Vec<RawHandler>, CaseFault> {
             Err(_) => return Err(CaseFault::Notation),
         }
     }
+    Ok(())
+}
+
+/// The rows of an exception table, each of eight bytes.
+fn rows_of(alloc: Global, bytes: &[u8]) -> Result<Vec<RawHandler>, CaseFault> {
+    let mut rows = Vec::new(alloc);
+    add_rows(&mut rows, bytes)?;
     Ok(rows)
+}
+
+/// The rows of the exception table that words spell.
+fn spelled_rows(alloc: Global, kept: &[File], text: &str) -> Result<Vec<RawHandler>, CaseFault> {
+    let bytes = bytes_of(alloc, kept, text)?;
+    rows_of(alloc, bytes.as_slice())
 }
 
 /// Adds what the code of a method and its exception table decode to.
@@ -46,9 +58,19 @@ pub fn add_code(
 ) -> Result<(), CaseFault> {
     let (code, rows) = text.split_once(';').unwrap_or((text, ""));
     let code = bytes_of(alloc, kept, code)?;
-    let rows = bytes_of(alloc, kept, rows)?;
-    let rows = rows_of(alloc, rows.as_slice())?;
-    add_decoded(alloc, out, kept, code.as_slice(), rows.as_slice())
+    add_code_of(alloc, out, kept, code.as_slice(), rows)
+}
+
+/// Adds what code and the exception table that words spell decode to.
+fn add_code_of(
+    alloc: Global,
+    out: &mut String,
+    kept: &[File],
+    code: &[u8],
+    rows: &str,
+) -> Result<(), CaseFault> {
+    let rows = spelled_rows(alloc, kept, rows)?;
+    add_decoded(alloc, out, kept, code, rows.as_slice())
 }
 
 /// Adds what code and rows decode to, over the kept pool.

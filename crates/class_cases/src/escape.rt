@@ -1,11 +1,11 @@
 //! The bytes of a listing that a line says.
 use crate::case::CaseFault;
-use crate::spelling::hexadecimal;
+use crate::spelling::byte_of;
 use case_text::repeated;
 use std::alloc::Global;
 
 /// Adds what stands behind a backslash.
-fn add_escape(alloc: Global, bytes: &mut Vec<u8>, part: &[u8]) -> Result<(), CaseFault> {
+fn add_escape(bytes: &mut Vec<u8>, part: &[u8]) -> Result<(), CaseFault> {
     match part {
         [b'n', behind @ ..] => {
             bytes.push(b'\n')?;
@@ -13,8 +13,7 @@ fn add_escape(alloc: Global, bytes: &mut Vec<u8>, part: &[u8]) -> Result<(), Cas
             Ok(())
         }
         [b'x', high, low, behind @ ..] => {
-            let byte = hexadecimal(alloc, &[*high, *low])?;
-            bytes.extend_from_slice(byte.as_slice())?;
+            bytes.push(byte_of(*high, *low)?)?;
             bytes.extend_from_slice(behind)?;
             Ok(())
         }
@@ -22,16 +21,27 @@ fn add_escape(alloc: Global, bytes: &mut Vec<u8>, part: &[u8]) -> Result<(), Cas
     }
 }
 
-/// The bytes of a listing.
-pub fn listing_of(alloc: Global, text: &str) -> Result<Vec<u8>, CaseFault> {
-    let text = repeated(alloc, text)?;
-    let mut bytes = Vec::new(alloc);
-    for (place, part) in text.as_str().split('\\').enumerate() {
+/// Adds a text with its escapes.
+fn add_text(bytes: &mut Vec<u8>, text: &str) -> Result<(), CaseFault> {
+    for (place, part) in text.split('\\').enumerate() {
         if place == 0 {
             bytes.extend_from_slice(part.as_bytes())?;
         } else {
-            add_escape(alloc, &mut bytes, part.as_bytes())?;
+            add_escape(bytes, part.as_bytes())?;
         }
     }
+    Ok(())
+}
+
+/// The bytes of a text with its escapes.
+fn unescaped(alloc: Global, text: &str) -> Result<Vec<u8>, CaseFault> {
+    let mut bytes = Vec::new(alloc);
+    add_text(&mut bytes, text)?;
     Ok(bytes)
+}
+
+/// The bytes of a listing.
+pub fn listing_of(alloc: Global, text: &str) -> Result<Vec<u8>, CaseFault> {
+    let text = repeated(alloc, text)?;
+    unescaped(alloc, text.as_str())
 }

@@ -21,18 +21,33 @@ fn text_of(alloc: Global, command: &str, text: &str) -> Result<Vec<u8>, CaseFaul
 
 /// What comes of a case that works on a listing.
 pub fn listing_answer(alloc: Global, command: &str, text: &str) -> Result<String, CaseFault> {
-    let text = text_of(alloc, command, text)?;
     let mut out = String::new(alloc);
-    match read_listing(alloc, text.as_slice()) {
+    add_listing_case(alloc, &mut out, command, text)?;
+    Ok(out)
+}
+
+/// Adds what comes of a case that works on a listing.
+fn add_listing_case(
+    alloc: Global,
+    out: &mut String,
+    command: &str,
+    text: &str,
+) -> Result<(), CaseFault> {
+    let text = text_of(alloc, command, text)?;
+    add_read_listing(alloc, out, command, text.as_slice())
+}
+
+/// Adds what is read of a listing.
+fn add_read_listing(
+    alloc: Global,
+    out: &mut String,
+    command: &str,
+    text: &[u8],
+) -> Result<(), CaseFault> {
+    match read_listing(alloc, text) {
         Err(MakeFault::Memory) => Err(CaseFault::Memory),
-        Err(MakeFault::BadListing { line }) => {
-            writeln!(out, "  item {line}")?;
-            Ok(out)
-        }
-        Ok(listings) => {
-            add_listings(alloc, &mut out, command, listings.as_slice())?;
-            Ok(out)
-        }
+        Err(MakeFault::BadListing { line }) => Ok(writeln!(out, "  item {line}")?),
+        Ok(listings) => add_listings(alloc, out, command, listings.as_slice()),
     }
 }
 

@@ -42,19 +42,28 @@ mod text_case;
 
 use case::{CaseFault, answer};
 use ja_base::Files;
-use std::io::{self, BufRead, BufReader};
+use std::io;
 
-fn main(rt: HostRuntime) -> io::Result<()> {
-    let alloc = rt.alloc();
-    let mut kept = Files::new(alloc);
-    for line in BufReader::new(alloc, rt.reader())?.lines(alloc) {
-        let line = line?;
-        println!(rt; "{line}")?;
-        match answer(alloc, &mut kept, line.as_str()) {
-            Ok(text) => print!(rt; "{text}")?,
-            Err(CaseFault::Notation) => println!(rt; "  no case")?,
-            Err(CaseFault::Memory) => println!(rt; "  out of memory")?,
-        }
+/// Prints a line and what comes of it.
+fn print_answer(rt: &HostRuntime, kept: &mut Files, line: &str) -> io::Result<()> {
+    println!(rt; "{line}")?;
+    match answer(rt.alloc(), kept, line) {
+        Ok(text) => print!(rt; "{text}"),
+        Err(CaseFault::Notation) => println!(rt; "  no case"),
+        Err(CaseFault::Memory) => println!(rt; "  out of memory"),
+    }
+}
+
+/// Prints each line of a text and what comes of it.
+fn print_answers(rt: &HostRuntime, text: &str) -> io::Result<()> {
+    let mut kept = Files::new(rt.alloc());
+    for line in text.lines() {
+        print_answer(rt, &mut kept, line)?;
     }
     Ok(())
+}
+
+fn main(rt: HostRuntime) -> io::Result<()> {
+    let text = io::read_to_string(rt.alloc(), rt.reader())?;
+    print_answers(&rt, text.as_str())
 }

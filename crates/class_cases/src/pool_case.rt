@@ -52,7 +52,18 @@ pub fn add_pool_case(
     let (place, spelled) = parted(text);
     let place = number_of(place)?;
     let bytes = bytes_of(alloc, kept, spelled)?;
-    let (read, behind) = read_at(alloc, bytes.as_slice(), place);
+    add_pool_at(alloc, out, command, bytes.as_slice(), place)
+}
+
+/// Adds what is read of a pool that begins at a place of a file.
+fn add_pool_at(
+    alloc: Global,
+    out: &mut String,
+    command: &str,
+    bytes: &[u8],
+    place: usize,
+) -> Result<(), CaseFault> {
+    let (read, behind) = read_at(alloc, bytes, place);
     match read {
         Ok(pool) => Ok(add_read(out, command, &pool, behind)?),
         Err(fault) => add_fault(out, fault),

@@ -22,24 +22,48 @@ fn digit_of(digit: u8) -> Result<u8, CaseFault> {
     }
 }
 
+/// The byte that two hexadecimal digits spell.
+pub fn byte_of(high: u8, low: u8) -> Result<u8, CaseFault> {
+    let high = digit_of(high)?;
+    let low = digit_of(low)?;
+    Ok(low.wrapping_add(high.wrapping_mul(16)))
+}
+
+/// Adds the byte that two digits spell.
+fn add_byte(bytes: &mut Vec<u8>, digits: &[u8]) -> Result<(), CaseFault> {
+    match digits {
+        [high, low] => Ok(bytes.push(byte_of(*high, *low)?)?),
+        _ => Err(CaseFault::Notation),
+    }
+}
+
+/// Adds the bytes that hexadecimal digits spell.
+fn add_digits(bytes: &mut Vec<u8>, digits: &str) -> Result<(), CaseFault> {
+    for digits in digits.as_bytes().chunks(2) {
+        add_byte(bytes, digits)?;
+    }
+    Ok(())
+}
+
 /// The bytes that hexadecimal digits spell.
-pub fn hexadecimal(alloc: Global, digits: &[u8]) -> Result<Vec<u8>, CaseFault> {
+fn hexadecimal(alloc: Global, digits: &str) -> Result<Vec<u8>, CaseFault> {
     let mut bytes = Vec::new(alloc);
-    let mut high = None;
-    for digit in digits {
-        let value = digit_of(*digit)?;
-        match high {
-            None => high = Some(value),
-            Some(first) => {
-                bytes.push(value.wrapping_add(first.wrapping_mul(16)))?;
-                high = None;
-            }
-        }
-    }
-    match high {
-        None => Ok(bytes),
-        Some(_) => Err(CaseFault::Notation),
-    }
+    add_digits(&mut bytes, digits)?;
+    Ok(bytes)
+}
+
+/// Adds bytes with new ones in place of so many from a place on.
+fn add_changed(
+    changed: &mut Vec<u8>,
+    bytes: &[u8],
+    place: usize,
+    length: usize,
+    new: &[u8],
+) -> Result<(), CaseFault> {
+    changed.extend_from_slice(bytes.get(..place).unwrap_or(&[]))?;
+    changed.extend_from_slice(new)?;
+    changed.extend_from_slice(bytes.get(place.saturating_add(length)..).unwrap_or(&[]))?;
+    Ok(())
 }
 
 /// The bytes with new ones in place of so many from a place on.
@@ -50,17 +74,15 @@ fn changed(
     length: usize,
     new: &[u8],
 ) -> Result<Vec<u8>, CaseFault> {
-    let mut changed = Vec::from_slice(alloc, bytes.get(..place).unwrap_or(&[]))?;
-    changed.extend_from_slice(new)?;
-    changed.extend_from_slice(bytes.get(place.saturating_add(length)..).unwrap_or(&[]))?;
+    let mut changed = Vec::new(alloc);
+    add_changed(&mut changed, bytes, place, length, new)?;
     Ok(changed)
 }
 
-/// Makes a change, `PLACE` or `PLACE/LENGTH`, by digits.
-fn change(alloc: Global, bytes: &mut Vec<u8>, place: &str, digits: &str) -> Result<(), CaseFault> {
-    let new = hexadecimal(alloc, digits.as_bytes())?;
+/// Makes a change, `PLACE` or `PLACE/LENGTH`, to these bytes.
+fn change(alloc: Global, bytes: &mut Vec<u8>, place: &str, new: &[u8]) -> Result<(), CaseFault> {
     let (place, length) = place_and_length(place, new.len())?;
-    *bytes = changed(alloc, bytes.as_slice(), place, length, new.as_slice())?;
+    *bytes = changed(alloc, bytes.as_slice(), place, length, new)?;
     Ok(())
 }
 
@@ -72,36 +94,25 @@ fn place_and_length(place: &str, length: usize) -> Result<(usize, usize), CaseFa
     }
 }
 
-/// Adds so many times the bytes that digits spell.
-fn add_times(
-    alloc: Global,
-    bytes: &mut Vec<u8>,
-    count: &str,
-    digits: &str,
-) -> Result<(), CaseFault> {
-    let times = hexadecimal(alloc, digits.as_bytes())?;
+/// Adds bytes so many times.
+fn add_times(bytes: &mut Vec<u8>, count: &str, times: &[u8]) -> Result<(), CaseFault> {
     for _ in 0..number_of(count)? {
-        bytes.extend_from_slice(times.as_slice())?;
+        bytes.extend_from_slice(times)?;
     }
-    Ok(())
-}
-
-/// Adds the bytes that digits spell.
-fn add_digits(alloc: Global, bytes: &mut Vec<u8>, digits: &str) -> Result<(), CaseFault> {
-    let more = hexadecimal(alloc, digits.as_bytes())?;
-    bytes.extend_from_slice(more.as_slice())?;
     Ok(())
 }
 
 /// Does what a word with digits says.
 fn take_digits(alloc: Global, bytes: &mut Vec<u8>, word: &str) -> Result<(), CaseFault> {
     if let Some((place, digits)) = word.split_once('=') {
-        return change(alloc, bytes, place, digits);
+        let new = hexadecimal(alloc, digits)?;
+        return change(alloc, bytes, place, new.as_slice());
     }
-    match word.split_once('*') {
-        Some((count, digits)) => add_times(alloc, bytes, count, digits),
-        None => add_digits(alloc, bytes, word),
-    }
+    let Some((count, digits)) = word.split_once('*') else {
+        return add_digits(bytes, word);
+    };
+    let times = hexadecimal(alloc, digits)?;
+    add_times(bytes, count, times.as_slice())
 }
 
 /// Does what a word says.
@@ -123,11 +134,22 @@ fn take_word(
     Ok(())
 }
 
+/// Does what words say.
+fn add_words(
+    alloc: Global,
+    kept: &[File],
+    bytes: &mut Vec<u8>,
+    text: &str,
+) -> Result<(), CaseFault> {
+    for word in text.split_whitespace() {
+        take_word(alloc, kept, bytes, word)?;
+    }
+    Ok(())
+}
+
 /// The bytes that words spell.
 pub fn bytes_of(alloc: Global, kept: &[File], text: &str) -> Result<Vec<u8>, CaseFault> {
     let mut bytes = Vec::new(alloc);
-    for word in text.split_whitespace() {
-        take_word(alloc, kept, &mut bytes, word)?;
-    }
+    add_words(alloc, kept, &mut bytes, text)?;
     Ok(bytes)
 }

@@ -18,6 +18,7 @@ use ja_lib::{Table, default_table};
 pub use outcome::text_of_outcome;
 use outcome::{Outcome, outcome_of};
 use std::alloc::Global;
+use std::rt::Runtime;
 use std::thread::Threads;
 use std::time::Instant;
 use std::{io, slice};
