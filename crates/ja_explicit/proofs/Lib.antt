@@ -12,3 +12,4 @@ pub mod Starting
 pub mod Complete
 pub mod Closed
 pub mod Warned
+pub mod Rounds

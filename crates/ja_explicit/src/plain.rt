@@ -77,6 +77,7 @@ pub fn solve_plain(
     ensures narrow { IfOk result (λ warned. AreNarrow p.now) }
     ensures wide { IfErr result (IsCause p.now) }
 {
+    let _whole = p.methods();
     if let Some((method, values)) = first_wide(p) {
         return Err(PlainFault::FrameTooWide { method, values });
     }
