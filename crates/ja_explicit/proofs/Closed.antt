@@ -85,7 +85,7 @@ module _ (p : Parts) (f : Facts) (whole : IsWhole p) (given : AreGiven p f) (ite
   in_opens : (entry : Entry) (method : Method) (x : Item) → Contains p.entries entry → slice_get p.methods entry.method.0 ≡ Some method → Contains (starts.opens p f items entry (Some method)) x → Contains items x
   in_opens entry method x listed found h = in_enters entry x listed
       (Contains-append_right (starts.initializers (inits_of_class (slice_get p.classes entry.class.0))) (starts.opens p f items entry (slice_get p.methods entry.method.0)) x
-        (subst (λ o. Contains (starts.opens p f items entry o) x) (sym found) h))
+      (subst (λ o. Contains (starts.opens p f items entry o) x) (sym found) h))
 
   nothing_context : (n : ℕ) (method : Method) (a : Assignment) → slice_get p.methods n ≡ Some method → HasCode method → IsNothing a → Contains items (Context n 0) → CoversContext p f items n a
   nothing_context n method a found has_code nothing inside = record {
@@ -103,17 +103,17 @@ module _ (p : Parts) (f : Facts) (whole : IsWhole p) (given : AreGiven p f) (ite
       let it = class_initializer p whole init.entry.class.0 (record { 0 = m }) init.initializes in
       nothing_context m it.method a it.named.found it.code nothing
       (in_enters init.entry (Context m 0) init.listed
-        (Contains-append_left (starts.initializers (inits_of_class (slice_get p.classes init.entry.class.0))) (starts.opens p f items init.entry (slice_get p.methods init.entry.method.0)) (Context m 0)
-          (in_initializers (inits_of_class (slice_get p.classes init.entry.class.0)) (record { 0 = m }) init.initializes)))
+      (Contains-append_left (starts.initializers (inits_of_class (slice_get p.classes init.entry.class.0))) (starts.opens p f items init.entry (slice_get p.methods init.entry.method.0)) (Context m 0)
+      (in_initializers (inits_of_class (slice_get p.classes init.entry.class.0)) (record { 0 = m }) init.initializes)))
 
   constructor_context : (entry : Entry) (m : ℕ) (a : Assignment) → HasObjects p entry → IsConstructor p entry.class.0 m → IsNothing a → CoversContext p f items m a
   constructor_context entry m a objects is nothing =
       let it : IsConstructorOf p entry.class.0 m = (constructor-says p entry.class.0 m).0 is in
       nothing_context m it.method a it.found it.constructs.plain.code nothing
       (in_opens entry objects.method (Context m 0) objects.is_entry.listed objects.is_entry.found
-        (Contains-append_left (if is_member objects.method.flags then starts.constructs (constructor_of p entry.class.0) else []) (starts.contexts entry.method.0 (next_words objects.method (opened_clauses objects.method (starts.may_be_true p f items entry objects.method)) (says objects.method 0))) (Context m 0)
-          (in_if (is_member objects.method.flags) (starts.constructs (constructor_of p entry.class.0)) (Context m 0) objects.member
-            (subst (λ o. Contains (starts.constructs o) (Context m 0)) (sym is) (here (Context m 0) [])))))
+      (Contains-append_left (if is_member objects.method.flags then starts.constructs (constructor_of p entry.class.0) else []) (starts.contexts entry.method.0 (next_words objects.method (opened_clauses objects.method (starts.may_be_true p f items entry objects.method)) (says objects.method 0))) (Context m 0)
+      (in_if (is_member objects.method.flags) (starts.constructs (constructor_of p entry.class.0)) (Context m 0) objects.member
+      (subst (λ o. Contains (starts.constructs o) (Context m 0)) (sym is) (here (Context m 0) [])))))
 
   stored_each : (cells : List Cell) → Each (Covers p f items) (stored_facts cells) → (c : Cell) → Contains cells c → Contains items (Stored (cell_number p c))
   stored_each [] each c h = nothing_in c h
@@ -130,15 +130,14 @@ module _ (p : Parts) (f : Facts) (whole : IsWhole p) (given : AreGiven p f) (ite
     holds_true k h = or_right (starts.is_marked entry k) (starts.is_reference (kind_among (is_member method.flags) (param_types method) k) && starts.param_stores p f items entry.method.0 k)
         (and_from (starts.is_reference (kind_among (is_member method.flags) (param_types method) k)) (starts.param_stores p f items entry.method.0 k) (ap starts.is_reference h.reaches.reference) (by_set h.reaches.inside))
       where
-
         by_set : (told p f).classes (InParam entry.method.0 k h.reaches.token) → starts.param_stores p f items entry.method.0 k ≡ true
         by_set (inr none) = absurd none
         by_set (inl has) =
             some_any (λ t. slice_index_or (param_set f.sets entry.method.0 k) t false && starts.token_stores p f items t) (token_count p) h.reaches.token low
             (and_from (slice_index_or (param_set f.sets entry.method.0 k) h.reaches.token false) (starts.token_stores p f items h.reaches.token) has
-              (some_any (λ c. slice_index_or (slice_index_or f.holds.tokens h.reaches.token []) c false && stores items c) (cell_count p) (cell_number p h.cell) (cell_low p h.cell h.reaches.holds.0)
-                (and_from (slice_index_or (slice_index_or f.holds.tokens h.reaches.token []) (cell_number p h.cell) false) (stores items (cell_number p h.cell)) h.reaches.holds.1
-                  (item_has items (Stored (cell_number p h.cell)) (stored_each cells each h.cell h.listed)))))
+            (some_any (λ c. slice_index_or (slice_index_or f.holds.tokens h.reaches.token []) c false && stores items c) (cell_count p) (cell_number p h.cell) (cell_low p h.cell h.reaches.holds.0)
+            (and_from (slice_index_or (slice_index_or f.holds.tokens h.reaches.token []) (cell_number p h.cell) false) (stores items (cell_number p h.cell)) h.reaches.holds.1
+            (item_has items (Stored (cell_number p h.cell)) (stored_each cells each h.cell h.listed)))))
           where
             low : h.reaches.token < token_count p
             low = elim (cases_lt h.reaches.token (token_count p)) [
@@ -182,7 +181,7 @@ module _ (p : Parts) (f : Facts) (whole : IsWhole p) (given : AreGiven p f) (ite
           small = (word_fits method (opened_clauses method test) (says method 0) r.0 r.1).0;
           same = r.2;
           listed = in_opens entry method (Context entry.method.0 r.0) begin.is_entry.listed begin.is_entry.found
-            (Contains-append_right (if is_member method.flags then starts.constructs (constructor_of p entry.class.0) else []) (starts.contexts entry.method.0 (next_words method (opened_clauses method test) (says method 0))) (Context entry.method.0 r.0)
+              (Contains-append_right (if is_member method.flags then starts.constructs (constructor_of p entry.class.0) else []) (starts.contexts entry.method.0 (next_words method (opened_clauses method test) (says method 0))) (Context entry.method.0 r.0)
               (in_contexts entry.method.0 (next_words method (opened_clauses method test) (says method 0)) r.0 r.1));
         }
 
@@ -226,10 +225,10 @@ module _ (p : Parts) (f : Facts) (whole : IsWhole p) (given : AreGiven p f) (ite
     resumed j after sum normal leads end =
         subst (λ x. CoversAt p f items m j x after) at.same_entry
         (return_covers p f whole given items closed m i at.method at.found at.instr at.at at.reached at.entry at.word at.small at.listed call same_op.0 n goes_to.listed calls.method calls.found has_code j normal.w after normal.result normal.dirt leads
-          (word_in normal.method normal.w normal.found normal.small normal.same) normal.listed
-          (subst (λ u. IsReturn (told p f) m i n (arguments call) u (has_result call.result) (says at.method at.word) (record { result = normal.result; dirt = normal.dirt; exc = false }) after) (sym same_base)
-            (subst (λ q. IsReturn (told p f) m i n (arguments call) under (has_result call.result) (says at.method at.word) q after) (sym normal.same_summary)
-              (subst (λ x. IsReturn (told p f) m i n (arguments call) under (has_result call.result) x sum after) (sym at.same) end))))
+        (word_in normal.method normal.w normal.found normal.small normal.same) normal.listed
+        (subst (λ u. IsReturn (told p f) m i n (arguments call) u (has_result call.result) (says at.method at.word) (record { result = normal.result; dirt = normal.dirt; exc = false }) after) (sym same_base)
+        (subst (λ q. IsReturn (told p f) m i n (arguments call) under (has_result call.result) (says at.method at.word) q after) (sym normal.same_summary)
+        (subst (λ x. IsReturn (told p f) m i n (arguments call) under (has_result call.result) x sum after) (sym at.same) end))))
 
     thrown_by : (thrown : Assignment) (sum : Summary) → CoversThrew p f items n c sum → IsCallThrown (told p f) m i n (arguments call) under b sum thrown
         → (v : ℕ) × ((place : Place) (x : Item) → Contains (places_of p f m i at.method) place → Contains (lands_at (record { method = at.method; m = m; a = at.entry; b = at.word }) v place) x → Contains items x) × (says at.method v ≡ thrown)
@@ -237,8 +236,8 @@ module _ (p : Parts) (f : Facts) (whole : IsWhole p) (given : AreGiven p f) (ite
         callee_word p f whole given items closed m i at.method at.found at.instr at.at at.reached at.entry at.word at.small at.listed call same_op.0 n goes_to.listed calls.method calls.found has_code threw.w thrown threw.dirt threw.exc
         (word_in threw.method threw.w threw.found threw.small threw.same) threw.listed
         (subst (λ u. IsCallThrown (told p f) m i n (arguments call) u (says at.method at.word) (record { result = false; dirt = threw.dirt; exc = threw.exc }) thrown) (sym same_base)
-          (subst (λ q. IsCallThrown (told p f) m i n (arguments call) under (says at.method at.word) q thrown) (sym threw.same_summary)
-            (subst (λ x. IsCallThrown (told p f) m i n (arguments call) under x sum thrown) (sym at.same) end)))
+        (subst (λ q. IsCallThrown (told p f) m i n (arguments call) under (says at.method at.word) q thrown) (sym threw.same_summary)
+        (subst (λ x. IsCallThrown (told p f) m i n (arguments call) under x sum thrown) (sym at.same) end)))
 
   -- ---- each rule
 
@@ -306,12 +305,12 @@ module _ (p : Parts) (f : Facts) (whole : IsWhole p) (given : AreGiven p f) (ite
       let at : CoversAt p f items m i a b = each.0 in
       subst (λ x. CoversNormal p f items m x (return_summary (b.slot (OnStack k)) b)) at.same_entry
       (subst (λ (y : Assignment). CoversNormal p f items m (says at.method at.entry) (return_summary (y.slot (OnStack k)) y)) at.same
-        (returns_covers p f whole given items closed m i at.method at.found at.instr at.at at.reached at.entry at.word at.small at.listed o))
+      (returns_covers p f whole given items closed m i at.method at.found at.instr at.at at.reached at.entry at.word at.small at.listed o))
   closing ps fact (method_ends {m = m} {i = i} {a = a} {b = b} o) each =
       let at : CoversAt p f items m i a b = each.0 in
       subst (λ x. CoversNormal p f items m x (return_summary false b)) at.same_entry
       (subst (λ (y : Assignment). CoversNormal p f items m (says at.method at.entry) (return_summary false y)) at.same
-        (ends_covers p f whole given items closed m i at.method at.found at.instr at.at at.reached at.entry at.word at.small at.listed o))
+      (ends_covers p f whole given items closed m i at.method at.found at.instr at.at at.reached at.entry at.word at.small at.listed o))
   closing ps fact (stored {m = m} {i = i} {v = v} {a = a} {b = b} o w t) each =
       let at : CoversAt p f items m i a b = each.0 in
       stored_covers p f whole given items closed m i at.method at.found at.instr at.at at.reached at.entry at.word at.small at.listed o w (subst (λ (y : Assignment). y.slot v ≡ true) (sym at.same) t)

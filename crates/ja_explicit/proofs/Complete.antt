@@ -134,9 +134,9 @@ absorbs_low p t e = go (slice_get p.classes t) refl e
     go None found h = elim (or_cases (t == lib_token p) ((t == rarr_token p) || (t == parr_token p)) h) [
       | inl is ↦ (let same = eqb-true t (lib_token p) is in omega (arith, same))
       | inr other ↦ (elim (or_cases (t == rarr_token p) (t == parr_token p) other) [
-          | inl is ↦ (let same = eqb-true t (rarr_token p) is in omega (arith, same))
-          | inr is ↦ (let same = eqb-true t (parr_token p) is in omega (arith, same))
-        ])
+        | inl is ↦ (let same = eqb-true t (rarr_token p) is in omega (arith, same))
+        | inr is ↦ (let same = eqb-true t (parr_token p) is in omega (arith, same))
+      ])
     ]
 
 -- ---- what lists of facts cover
@@ -240,7 +240,7 @@ module _ (p : Parts) (f : Facts) (whole : IsWhole p) (given : AreGiven p f) (ite
     in_runs : (x : Item) → Contains (code.runs p f items s i instr) x → Contains items x
     in_runs x h = closed.each (At m i a b) listed x
         (subst (λ o. Contains (code.runs_in p f items m i a b o) x) (sym found)
-          (subst (λ o. Contains (code.runs_reached p f items s i o) x) (sym at) (in_if instr.reached (code.runs p f items s i instr) x reached h)))
+        (subst (λ o. Contains (code.runs_reached p f items s i o) x) (sym at) (in_if instr.reached (code.runs p f items s i instr) x reached h)))
 
     abbrev l1 : List Item
     l1 = code.goes_on p f items s tests instr.op instr.height instr.next
@@ -315,8 +315,8 @@ module _ (p : Parts) (f : Facts) (whole : IsWhole p) (given : AreGiven p f) (ite
         → ((g : ℕ) → read_field instr.op ≡ Some g → after.slot (read_slot instr.op instr.height) ≡ true → code.answers p f items g ≡ true) → CoversAt p f items m j entry after
     normal_covers j after leads end answered = covers_at j (height_after instr.op instr.height) r.0 after (next_there p whole m method found i instr at reached j jn) r.2
         (in_1 (At m j a r.0) (in_at_all m a instr.next (code.passing (is_readable (read_field instr.op) p f items method (read_slot instr.op instr.height)) (code.normal_words s tests instr.op instr.height)) j r.0 jn
-          (in_passing (is_readable (read_field instr.op) p f items method (read_slot instr.op instr.height)) (code.normal_words s tests instr.op instr.height) r.0
-            (in_if (may_go_on tests instr.op) (next_words method (normal_clauses tests instr.op instr.height) before) r.0 fit.1 r.1) (readable (read_field instr.op) refl))))
+        (in_passing (is_readable (read_field instr.op) p f items method (read_slot instr.op instr.height)) (code.normal_words s tests instr.op instr.height) r.0
+        (in_if (may_go_on tests instr.op) (next_words method (normal_clauses tests instr.op instr.height) before) r.0 fit.1 r.1) (readable (read_field instr.op) refl))))
       where
         jn : Contains instr.next j
         jn = leads_in j leads
@@ -351,7 +351,7 @@ module _ (p : Parts) (f : Facts) (whole : IsWhole p) (given : AreGiven p f) (ite
     answers_cell g c (held it) h =
         or_right (stores items g) (any_below (λ c. slice_index_or (slice_index_or f.holds.fields g []) c false && stores items c) (cell_count p))
         (some_any (λ c. slice_index_or (slice_index_or f.holds.fields g []) c false && stores items c) (cell_count p) (cell_number p c) (cell_low p c it.0)
-          (and_from (slice_index_or (slice_index_or f.holds.fields g []) (cell_number p c) false) (stores items (cell_number p c)) it.1 (item_has items (Stored (cell_number p c)) h)))
+        (and_from (slice_index_or (slice_index_or f.holds.fields g []) (cell_number p c) false) (stores items (cell_number p c)) it.1 (item_has items (Stored (cell_number p c)) h)))
 
     pub reads_covers : {j g height : ℕ} {op : Op} {r : Slot} (c : Cell) (after : Assignment) → OpAt p m i op height → Leads p m i j → IsNormalEnd p (told p f) m i before after
         → Reads op height g r → Answers (told p f) g c → Contains items (Stored (cell_number p c)) → CoversAt p f items m j entry after
@@ -411,9 +411,12 @@ module _ (p : Parts) (f : Facts) (whole : IsWhole p) (given : AreGiven p f) (ite
         by_way : ((way : Way) × (may_end tests instr.op way ≡ true) × AllFit (exceptional_clauses way tests instr.op instr.height) before thrown) → (w : ℕ) × AllLand w × (says method w ≡ thrown)
         by_way it =
             let clauses = exceptional_clauses it.0 tests instr.op instr.height in
-            let r = some_word method clauses before (idle_quiet method clauses b (exceptional_idle p f m i method found it.0 instr.op instr.height)) thrown it.2 in
-            (r.0, (λ place x pn xn. in_2 x (in_way it.0 x (in_lands_all s places (code.words_by it.0 s tests instr.op instr.height) place r.0 x pn
-              (in_if (may_end tests instr.op it.0) (next_words method clauses before) r.0 it.1 r.1) xn))), r.2)
+            let r = some_word method clauses before (idle_quiet method clauses b (exceptional_idle p f m i method found it.0 instr.op instr.height)) thrown it.2 in (
+              r.0,
+              (λ place x pn xn. in_2 x (in_way it.0 x (in_lands_all s places (code.words_by it.0 s tests instr.op instr.height) place r.0 x pn
+                  (in_if (may_end tests instr.op it.0) (next_words method clauses before) r.0 it.1 r.1) xn))),
+              r.2,
+            )
           where
             in_way : (way : Way) (x : Item) → Contains (code.lands_all s places (code.words_by way s tests instr.op instr.height)) x → Contains l2 x
             in_way Clean x h = Contains-append_left (code.lands_all s places (code.words_by Clean s tests instr.op instr.height)) (code.lands_all s places (code.words_by Thrown s tests instr.op instr.height) ++ code.lands_all s places (code.words_by InLibrary s tests instr.op instr.height)) x h
@@ -466,8 +469,8 @@ module _ (p : Parts) (f : Facts) (whole : IsWhole p) (given : AreGiven p f) (ite
           → IsReturn (told p f) m i n 0 instr.height false before (record { result = result; dirt = dirt; exc = false }) after → CoversAt p f items m i entry after
       initializer_at after result dirt init inside end = covers_at i instr.height r.0 after own_reached r.2
           (in_init n (At m i a r.0) init (there (Context n 0) (code.ends_with_each s init_way items) (At m i a r.0) (in_ends s init_way items (Normal n 0 result dirt) (At m i a r.0) inside
-            (in_if ((n == n) && (0 == 0)) (code.returns_with s init_way (record { result = result; dirt = dirt; exc = false })) (At m i a r.0) (and_from (n == n) (0 == 0) (eq-eqb n n refl) refl)
-              (in_at_all m a (i ∷ []) (next_words method (init_clauses (record { result = result; dirt = dirt; exc = false })) before) i r.0 (here i []) r.1)))))
+          (in_if ((n == n) && (0 == 0)) (code.returns_with s init_way (record { result = result; dirt = dirt; exc = false })) (At m i a r.0) (and_from (n == n) (0 == 0) (eq-eqb n n refl) refl)
+          (in_at_all m a (i ∷ []) (next_words method (init_clauses (record { result = result; dirt = dirt; exc = false })) before) i r.0 (here i []) r.1)))))
         where
           r : (w : ℕ) × Contains (next_words method (init_clauses (record { result = result; dirt = dirt; exc = false })) before) w × (says method w ≡ after)
           r = some_word method (init_clauses (record { result = result; dirt = dirt; exc = false })) before
@@ -524,9 +527,9 @@ module _ (p : Parts) (f : Facts) (whole : IsWhole p) (given : AreGiven p f) (ite
       in_call : (c : ℕ) (x : Item) → Contains given_words c → Contains (code.goes_through items s (way c)) x → Contains items x
       in_call c x cn h = in_4 x (subst (λ (o : Op). Contains (code.calls p f items s i instr.next places o instr.height) x) (sym is)
           (in_calls_each call under (targets_at f.graph m i).methods n x target
-            (subst (λ (o : Option Method). Contains (code.calls_method p f items s i instr.next places call under n o) x) (sym callee_found)
-              (subst (λ (e : Bool). Contains (if e then [] else code.calls_with p f items s i instr.next places call under n given_words) x) (sym (not_empty callee.code has_code))
-                (in_calls_with call under n given_words c x cn h)))))
+          (subst (λ (o : Option Method). Contains (code.calls_method p f items s i instr.next places call under n o) x) (sym callee_found)
+          (subst (λ (e : Bool). Contains (if e then [] else code.calls_with p f items s i instr.next places call under n given_words) x) (sym (not_empty callee.code has_code))
+          (in_calls_with call under n given_words c x cn h)))))
         where
           not_empty : (xs : List Instr) → 0 < length xs → is_empty xs ≡ false
           not_empty [] lt = absurd (omega (arith, lt))
@@ -565,8 +568,8 @@ module _ (p : Parts) (f : Facts) (whole : IsWhole p) (given : AreGiven p f) (ite
           → IsReturn (told p f) m i n (arguments call) under (has_result call.result) before (record { result = result; dirt = dirt; exc = false }) after → CoversAt p f items m j entry after
       return_covers j w after result dirt leads wn inside end = covers_at j (height_after instr.op instr.height) r.0 after (next_there p whole m method found i instr at reached j jn) r.2
           (in_call w (At m j a r.0) wn (there (Context n w) (code.ends_with_each s (way w) items) (At m j a r.0) (in_ends s (way w) items (Normal n w result dirt) (At m j a r.0) inside
-            (in_if ((n == n) && (w == w)) (code.returns_with s (way w) (record { result = result; dirt = dirt; exc = false })) (At m j a r.0) (and_from (n == n) (w == w) (eq-eqb n n refl) (eq-eqb w w refl))
-              (in_at_all m a instr.next (next_words method (back_clauses (record { result = result; dirt = dirt; exc = false })) before) j r.0 jn r.1)))))
+          (in_if ((n == n) && (w == w)) (code.returns_with s (way w) (record { result = result; dirt = dirt; exc = false })) (At m j a r.0) (and_from (n == n) (w == w) (eq-eqb n n refl) (eq-eqb w w refl))
+          (in_at_all m a instr.next (next_words method (back_clauses (record { result = result; dirt = dirt; exc = false })) before) j r.0 jn r.1)))))
         where
           jn : Contains instr.next j
           jn = leads_in j leads
@@ -579,9 +582,13 @@ module _ (p : Parts) (f : Facts) (whole : IsWhole p) (given : AreGiven p f) (ite
       -- an end by an exception of the method leaves a word
       pub callee_word : (w : ℕ) (thrown : Assignment) (dirt exc : Bool) → Contains given_words w → Contains items (Threw n w dirt exc)
           → IsCallThrown (told p f) m i n (arguments call) under before (record { result = false; dirt = dirt; exc = exc }) thrown → (v : ℕ) × AllLand v × (says method v ≡ thrown)
-      callee_word w thrown dirt exc wn inside end = (r.0, (λ place x pn xn. in_call w x wn (there (Context n w) (code.ends_with_each s (way w) items) x (in_ends s (way w) items (Threw n w dirt exc) x inside
+      callee_word w thrown dirt exc wn inside end = (
+        r.0,
+        (λ place x pn xn. in_call w x wn (there (Context n w) (code.ends_with_each s (way w) items) x (in_ends s (way w) items (Threw n w dirt exc) x inside
             (in_if ((n == n) && (w == w)) (code.throws_with s (way w) (record { result = false; dirt = dirt; exc = exc })) x (and_from (n == n) (w == w) (eq-eqb n n refl) (eq-eqb w w refl))
-              (in_lands_all s places (next_words method (out_clauses (record { result = false; dirt = dirt; exc = exc })) before) place r.0 x pn r.1 xn))))), r.2)
+            (in_lands_all s places (next_words method (out_clauses (record { result = false; dirt = dirt; exc = exc })) before) place r.0 x pn r.1 xn))))),
+        r.2,
+      )
         where
           r : (v : ℕ) × Contains (next_words method (out_clauses (record { result = false; dirt = dirt; exc = exc })) before) v × (says method v ≡ thrown)
           r = some_word method (out_clauses (record { result = false; dirt = dirt; exc = exc })) before
@@ -601,7 +608,7 @@ module _ (p : Parts) (f : Facts) (whole : IsWhole p) (given : AreGiven p f) (ite
         let e : instr.height - 1 ≡ k = let h = (op_same o).1 in omega (arith, h) in
         subst (λ z. CoversNormal p f items m entry (return_summary (before.slot (OnStack z)) before)) e
         (normal_of (before.slot (OnStack (instr.height - 1)))
-          (in_returns (Return (Some kind)) (Normal m a (before.slot (OnStack (instr.height - 1))) before.dirt) ((op_same o).0) (here (Normal m a (before.slot (OnStack (instr.height - 1))) before.dirt) [])))
+        (in_returns (Return (Some kind)) (Normal m a (before.slot (OnStack (instr.height - 1))) before.dirt) ((op_same o).0) (here (Normal m a (before.slot (OnStack (instr.height - 1))) before.dirt) [])))
 
     pub ends_covers : {height : ℕ} → OpAt p m i (Return None) height → CoversNormal p f items m entry (return_summary false before)
     ends_covers o = normal_of false (in_returns (Return None) (Normal m a false before.dirt) ((op_same o).0) (here (Normal m a false before.dirt) []))
@@ -609,8 +616,8 @@ module _ (p : Parts) (f : Facts) (whole : IsWhole p) (given : AreGiven p f) (ite
     written : (op : Op) (cell : ℕ) (v : ℕ) → instr.op ≡ op → code.stored_cell p op ≡ Some cell → instr.height - 1 ≡ v → before.slot (OnStack v) ≡ true → Contains items (Stored cell)
     written op cell v is e top t = in_6 (Stored cell)
         (subst (λ (o : Op). Contains (code.writes p s o instr.height) (Stored cell)) (sym is)
-          (subst (λ (o : Option ℕ). Contains (code.stored_if o (before.slot (OnStack (instr.height - 1)))) (Stored cell)) (sym e)
-            (in_if (before.slot (OnStack (instr.height - 1))) (Stored cell ∷ []) (Stored cell) (ap (λ z. before.slot (OnStack z)) top ∙ t) (here (Stored cell) []))))
+        (subst (λ (o : Option ℕ). Contains (code.stored_if o (before.slot (OnStack (instr.height - 1)))) (Stored cell)) (sym e)
+        (in_if (before.slot (OnStack (instr.height - 1))) (Stored cell ∷ []) (Stored cell) (ap (λ z. before.slot (OnStack z)) top ∙ t) (here (Stored cell) []))))
 
     pub stored_covers : {height : ℕ} {op : Op} {cell : Cell} {v : Slot} → OpAt p m i op height → Stores p op height cell v → before.slot v ≡ true → Contains items (Stored (cell_number p cell))
     stored_covers o (stores_field {f = g} {k = k} e) t = written (PutField (record { 0 = g })) g (suc k) ((op_same o).0) refl (let h = (op_same o).1 in omega (arith, h, e)) t
@@ -623,13 +630,12 @@ module _ (p : Parts) (f : Facts) (whole : IsWhole p) (given : AreGiven p f) (ite
     taken_covers t at' (inl none) put = absurd none
     taken_covers {under} {call} t at' (inr has) put = in_7 (Stored (code.bag p t))
         (subst (λ (o : Op). Contains (code.takes p f s i o instr.height) (Stored (code.bag p t))) (sym ((op_same at'.at).0))
-          (in_if (put_in before call (instr.height - arguments call)) (code.takes_all p (takers_at f.graph m i)) (Stored (code.bag p t)) (ap (put_in before call) same_under ∙ put)
-            (in_over (code.takes_by p (takers_at f.graph m i)) 0 (token_count p) t (Stored (code.bag p t)) (omega arith) low
-              (in_if (slice_index_or (takers_at f.graph m i) t false) (Stored (code.bag p t) ∷ []) (Stored (code.bag p t)) has (here (Stored (code.bag p t)) [])))))
+        (in_if (put_in before call (instr.height - arguments call)) (code.takes_all p (takers_at f.graph m i)) (Stored (code.bag p t)) (ap (put_in before call) same_under ∙ put)
+        (in_over (code.takes_by p (takers_at f.graph m i)) 0 (token_count p) t (Stored (code.bag p t)) (omega arith) low
+        (in_if (slice_index_or (takers_at f.graph m i) t false) (Stored (code.bag p t) ∷ []) (Stored (code.bag p t)) has (here (Stored (code.bag p t)) [])))))
       where
         same_under : instr.height - arguments call ≡ under
         same_under = let h = (op_same at'.at).1 in let u = at'.under_is in omega (arith, h, u)
 
         low : t < 0 + token_count p
         low = let lt = absorbs_low p t ((given.graph.takers m i t has).1) in omega (arith, lt)
-

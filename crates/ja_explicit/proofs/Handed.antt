@@ -58,9 +58,9 @@ pub local_apart : (method : Method) (k l : ℕ) → k < param_count method → l
 local_apart method k l klt llt e = elim (cases_order k l) [
   | inl same ↦ same
   | inr other ↦ (elim other [
-      | inl lt ↦ absurd (omega (arith, locals-rise (is_member method.flags) (param_types method) k l lt llt, e))
-      | inr gt ↦ absurd (omega (arith, locals-rise (is_member method.flags) (param_types method) l k gt klt, e))
-    ])
+    | inl lt ↦ absurd (omega (arith, locals-rise (is_member method.flags) (param_types method) k l lt llt, e))
+    | inr gt ↦ absurd (omega (arith, locals-rise (is_member method.flags) (param_types method) l k gt klt, e))
+  ])
 ]
 
 module _ (callee : Method) (call : CallOp) (under : ℕ) (b a : Assignment) (counted : param_count callee ≡ arguments call) where
@@ -72,10 +72,10 @@ module _ (callee : Method) (call : CallOp) (under : ℕ) (b a : Assignment) (cou
         ∙ sym t
     | inr f ↦
         is_false (any_below (λ j. nat_eq (param_local callee j) (param_local callee k) && b.slot (argument under j)) (arguments call)) (λ e.
-          let r = any_some (λ j. nat_eq (param_local callee j) (param_local callee k) && b.slot (argument under j)) (arguments call) e in
-          let parts = and_parts (nat_eq (param_local callee r.0) (param_local callee k)) (b.slot (argument under r.0)) r.2 in
-          let same : r.0 ≡ k = local_apart callee r.0 k (omega (arith, r.1, counted)) (omega (arith, lt, counted)) (eqb-true (param_local callee r.0) (param_local callee k) parts.0) in
-          false≢true (sym f ∙ subst (λ j. b.slot (argument under j) ≡ true) same parts.1))
+        let r = any_some (λ j. nat_eq (param_local callee j) (param_local callee k) && b.slot (argument under j)) (arguments call) e in
+        let parts = and_parts (nat_eq (param_local callee r.0) (param_local callee k)) (b.slot (argument under r.0)) r.2 in
+        let same : r.0 ≡ k = local_apart callee r.0 k (omega (arith, r.1, counted)) (omega (arith, lt, counted)) (eqb-true (param_local callee r.0) (param_local callee k) parts.0) in
+        false≢true (sym f ∙ subst (λ j. b.slot (argument under j) ≡ true) same parts.1))
         ∙ sym f
   ]
 
@@ -91,9 +91,9 @@ module _ (callee : Method) (call : CallOp) (under : ℕ) (b a : Assignment) (cou
       other (InLocal l) none =
           fits_constant (any_below (λ j. nat_eq (param_local callee j) l && b.slot (argument under j)) (arguments call)) b (a.slot (InLocal l)) (all (Local l))
           ∙ is_false (any_below (λ j. nat_eq (param_local callee j) l && b.slot (argument under j)) (arguments call)) (λ e.
-            let r = any_some (λ j. nat_eq (param_local callee j) l && b.slot (argument under j)) (arguments call) e in
-            let parts = and_parts (nat_eq (param_local callee r.0) l) (b.slot (argument under r.0)) r.2 in
-            none r.0 r.1 (ap InLocal (sym (eqb-true (param_local callee r.0) l parts.0))))
+          let r = any_some (λ j. nat_eq (param_local callee j) l && b.slot (argument under j)) (arguments call) e in
+          let parts = and_parts (nat_eq (param_local callee r.0) l) (b.slot (argument under r.0)) r.2 in
+          none r.0 r.1 (ap InLocal (sym (eqb-true (param_local callee r.0) l parts.0))))
       other (InStack k) none = fits_constant false b (a.slot (InStack k)) (all (OnStack k))
 
   pub hands_fit : HandsOver callee call under b a → AllFit (handed_clauses callee (arguments call) under b) b a
@@ -113,13 +113,13 @@ module _ (callee : Method) (call : CallOp) (under : ℕ) (b a : Assignment) (cou
 
           same_local : (k l : ℕ) → InLocal l ≡ InLocal (param_local callee k) → param_local callee k ≡ l
           same_local k l z = sym (cc z)
+
           from_none : (l : ℕ) → any_below (λ j. nat_eq (param_local callee j) l && b.slot (argument under j)) (arguments call) ≡ false → a.slot (InLocal l) ≡ false
           from_none l f = is_false (a.slot (InLocal l)) (λ t.
               let none : (k : ℕ) → k < arguments call → InLocal l ≡ InLocal (param_local callee k) → ⊥ =
-                  λ k lt z. false≢true (sym f ∙ some_any (λ j. nat_eq (param_local callee j) l && b.slot (argument under j)) (arguments call) k lt
-                    (and_from (nat_eq (param_local callee k) l) (b.slot (argument under k)) (eq-eqb (param_local callee k) l (same_local k l z)) (sym (h.each k lt) ∙ ap a.slot (sym z) ∙ t))) in
+              λ k lt z. false≢true (sym f ∙ some_any (λ j. nat_eq (param_local callee j) l && b.slot (argument under j)) (arguments call) k lt
+              (and_from (nat_eq (param_local callee k) l) (b.slot (argument under k)) (eq-eqb (param_local callee k) l (same_local k l z)) (sym (h.each k lt) ∙ ap a.slot (sym z) ∙ t))) in
               false≢true (sym (h.others (InLocal l) none) ∙ t))
-
   hands_fit h (OnStack k) = constant_fits false b (a.slot (InStack k)) (h.others (InStack k) (λ j lt z. absurd (cc z)))
   hands_fit h Dirt = constant_fits false b a.dirt h.dirt
   hands_fit h Exc = constant_fits false b a.exc h.exc

@@ -175,9 +175,9 @@ module _ (p : Parts) (f : Facts) (whole : IsWhole p) (given : AreGiven p f) wher
               by_read (Some g) e h = elim (cases_Bool ((says method w).slot (read_slot instr.op instr.height))) [
                 | inr nay ↦ clean (λ g' r reads. ap (says method w).slot (reads_known reads).1 ∙ nay)
                 | inl yea ↦ (elim (or_cases (not ((says method w).slot (read_slot instr.op instr.height))) (code.answers p f items g) h) [
-                    | inl n ↦ absurd (false≢true (sym (not-true ((says method w).slot (read_slot instr.op instr.height)) n) ∙ yea))
-                    | inr is ↦ by_answer yea (answer_told g (names_field instr.op g e (names_there p whole m method found i instr at).operands) is)
-                  ])
+                  | inl n ↦ absurd (false≢true (sym (not-true ((says method w).slot (read_slot instr.op instr.height)) n) ∙ yea))
+                  | inr is ↦ by_answer yea (answer_told g (names_field instr.op g e (names_there p whole m method found i instr at).operands) is)
+                ])
               ]
                 where
                   by_answer : (says method w).slot (read_slot instr.op instr.height) ≡ true → (c : Cell) × Answers (told p f) g c × Taints p f (equations.Stored c) → Taints p f (equations.At m j entry (says method w))
@@ -213,7 +213,7 @@ module _ (p : Parts) (f : Facts) (whole : IsWhole p) (given : AreGiven p f) wher
               by_place (Inside j) g = all_at_all m a Told (j ∷ []) (next_words method caught_clauses (says method w)) (λ k v kn vn.
                   subst (λ n. Told (At m n a v)) (the_one j k kn)
                   (to_told j v (lands r.0 j (says method v) (inl g.0) (in_dest r.0 (Inside j) g.1)
-                    (fit_caught (says method w) (says method v) (word_all method caught_clauses (says method w) (idle_quiet method caught_clauses w (caught_idle method (handler_room r.0 j g.1))) v vn)))))
+                  (fit_caught (says method w) (says method v) (word_all method caught_clauses (says method w) (idle_quiet method caught_clauses w (caught_idle method (handler_room r.0 j g.1))) v vn)))))
               by_place Outside g = all_one Told (Threw m a (says method w).dirt (says method w).exc) (leaves' r.0 (inl g.0) (in_dest r.0 Outside g.1))
 
       throws_told : AllOf Told (code.throws s (code.places_of p f m i method) tests instr.op instr.height)
@@ -222,7 +222,7 @@ module _ (p : Parts) (f : Facts) (whole : IsWhole p) (given : AreGiven p f) wher
           (code.lands_all s (code.places_of p f m i method) (code.words_by Thrown s tests instr.op instr.height) ++ code.lands_all s (code.places_of p f m i method) (code.words_by InLibrary s tests instr.op instr.height))
           (by_way Clean)
           (all_both Told (code.lands_all s (code.places_of p f m i method) (code.words_by Thrown s tests instr.op instr.height)) (code.lands_all s (code.places_of p f m i method) (code.words_by InLibrary s tests instr.op instr.height))
-            (by_way Thrown) (by_way InLibrary))
+          (by_way Thrown) (by_way InLibrary))
         where
           by_way : (way : Way) → AllOf Told (code.lands_all s (code.places_of p f m i method) (code.words_by way s tests instr.op instr.height))
           by_way way = all_lands_all s Told (code.places_of p f m i method) (code.words_by way s tests instr.op instr.height) (λ place w pn wn.
@@ -257,13 +257,13 @@ module _ (p : Parts) (f : Facts) (whole : IsWhole p) (given : AreGiven p f) wher
       init_told n init = through_told (init_passage p f m i instr.height n)
           (solves (equations.At m i entry before ∷ []) (equations.Context n (says_of p n 0)) (initialized init (says_nothing p n)) (now, tt))
           (λ r d yn. all_at_all m a Told (i ∷ []) (next_words method (return_clauses (affected_of p f m i n 0 instr.height) instr.height false (record { result = r; dirt = d; exc = false })) before) (λ k v kn vn.
-            let summary : Summary = record { result = r; dirt = d; exc = false } in
-            let all = word_all method (return_clauses (affected_of p f m i n 0 instr.height) instr.height false summary) before
-                (idle_quiet method (return_clauses (affected_of p f m i n 0 instr.height) instr.height false summary) b (return_idle p f m i method found n 0 instr.height false summary (λ e. absurd (false≢true e)))) v vn in
-            subst (λ j. Told (At m j a v)) (the_one i k kn)
-            (to_told i v (solves (equations.At m i entry before ∷ equations.Normal n (says_of p n 0) summary ∷ []) (equations.At m i entry (says method v))
-              (initializer_resumes op_at init (says_nothing p n) (fit_return (told p f) m i n 0 instr.height (affected_of p f m i n 0 instr.height) (affected_told p f m i n 0 instr.height) before false summary (says method v) all))
-              (now, (sound (Normal n 0 r d) yn, tt))))))
+          let summary : Summary = record { result = r; dirt = d; exc = false } in
+          let all = word_all method (return_clauses (affected_of p f m i n 0 instr.height) instr.height false summary) before
+          (idle_quiet method (return_clauses (affected_of p f m i n 0 instr.height) instr.height false summary) b (return_idle p f m i method found n 0 instr.height false summary (λ e. absurd (false≢true e)))) v vn in
+          subst (λ j. Told (At m j a v)) (the_one i k kn)
+          (to_told i v (solves (equations.At m i entry before ∷ equations.Normal n (says_of p n 0) summary ∷ []) (equations.At m i entry (says method v))
+          (initializer_resumes op_at init (says_nothing p n) (fit_return (told p f) m i n 0 instr.height (affected_of p f m i n 0 instr.height) (affected_told p f m i n 0 instr.height) before false summary (says method v) all))
+          (now, (sound (Normal n 0 r d) yn, tt))))))
           (λ d e yn. all_lands_all s Told [] (next_words method (throw_clauses (affected_of p f m i n 0 instr.height) (record { result = false; dirt = d; exc = e })) before) (λ place w pn wn. nothing_in place pn))
 
       inits_told : (inits : List MethodId) → ((n : MethodId) → Contains inits n → InitAt p m i n.0) → AllOf Told (code.initializes p f items s i instr.height inits)
@@ -299,7 +299,7 @@ module _ (p : Parts) (f : Facts) (whole : IsWhole p) (given : AreGiven p f) wher
           method = callee;
           found = there;
           hands = subst (λ x. HandsOver callee call under before x) (sym (says_found n callee there c))
-            (fit_hands callee call under before (says callee c) counted (word_all callee (handed_clauses callee (arguments call) under before) before (hands_quiet p whole n callee there has_code call counted under before) c cn));
+              (fit_hands callee call under before (says callee c) counted (word_all callee (handed_clauses callee (arguments call) under before) before (hands_quiet p whole n callee there has_code call counted under before) c cn));
         }
 
         answer_room : (j : ℕ) → Contains instr.next j → has_result call.result ≡ true → under < method.stack
@@ -313,21 +313,21 @@ module _ (p : Parts) (f : Facts) (whole : IsWhole p) (given : AreGiven p f) wher
         call_told c cn = through_told (call_passage p f m i instr.next (code.places_of p f m i method) call under n c)
             (solves (equations.At m i entry before ∷ []) (equations.Context n (says_of p n c)) (called (calls_of c cn)) (now, tt))
             (λ r d yn. all_at_all m a Told instr.next (next_words method (return_clauses (affected_of p f m i n (arguments call) under) under (has_result call.result) (record { result = r; dirt = d; exc = false })) before) (λ j v jn vn.
-              let summary : Summary = record { result = r; dirt = d; exc = false } in
-              let clauses = return_clauses (affected_of p f m i n (arguments call) under) under (has_result call.result) summary in
-              let all = word_all method clauses before (idle_quiet method clauses b (return_idle p f m i method found n (arguments call) under (has_result call.result) summary (answer_room j jn))) v vn in
-              to_told j v (solves (equations.At m i entry before ∷ equations.Normal n (says_of p n c) summary ∷ []) (equations.At m j entry (says method v))
-                (call_resumes (calls_of c cn) (leads j jn) (fit_return (told p f) m i n (arguments call) under (affected_of p f m i n (arguments call) under) (affected_told p f m i n (arguments call) under) before (has_result call.result) summary (says method v) all))
-                (now, (sound (Normal n c r d) yn, tt)))))
+            let summary : Summary = record { result = r; dirt = d; exc = false } in
+            let clauses = return_clauses (affected_of p f m i n (arguments call) under) under (has_result call.result) summary in
+            let all = word_all method clauses before (idle_quiet method clauses b (return_idle p f m i method found n (arguments call) under (has_result call.result) summary (answer_room j jn))) v vn in
+            to_told j v (solves (equations.At m i entry before ∷ equations.Normal n (says_of p n c) summary ∷ []) (equations.At m j entry (says method v))
+            (call_resumes (calls_of c cn) (leads j jn) (fit_return (told p f) m i n (arguments call) under (affected_of p f m i n (arguments call) under) (affected_told p f m i n (arguments call) under) before (has_result call.result) summary (says method v) all))
+            (now, (sound (Normal n c r d) yn, tt)))))
             (λ d x yn. all_lands_all s Told (code.places_of p f m i method) (next_words method (throw_clauses (affected_of p f m i n (arguments call) under) (record { result = false; dirt = d; exc = x })) before) (λ place w pn wn.
-              let summary : Summary = record { result = false; dirt = d; exc = x } in
-              let clauses = throw_clauses (affected_of p f m i n (arguments call) under) summary in
-              let all = word_all method clauses before (idle_quiet method clauses b (throw_idle p f m i method found n (arguments call) under summary)) w wn in
-              let end = fit_throw (told p f) m i n (arguments call) under (affected_of p f m i n (arguments call) under) (affected_told p f m i n (arguments call) under) before summary (says method w) all in
-              lands_told w
-              (λ t j after thrown to is'. solves (equations.At m i entry before ∷ equations.Threw n (says_of p n c) summary ∷ []) (equations.At m j entry after) (callee_caught (calls_of c cn) thrown to end is') (now, (sound (Threw n c d x) yn, tt)))
-              (λ t thrown to. solves (equations.At m i entry before ∷ equations.Threw n (says_of p n c) summary ∷ []) (equations.Threw m entry (thrown_summary (says method w))) (callee_leaves (calls_of c cn) thrown to end) (now, (sound (Threw n c d x) yn, tt)))
-              place pn))
+            let summary : Summary = record { result = false; dirt = d; exc = x } in
+            let clauses = throw_clauses (affected_of p f m i n (arguments call) under) summary in
+            let all = word_all method clauses before (idle_quiet method clauses b (throw_idle p f m i method found n (arguments call) under summary)) w wn in
+            let end = fit_throw (told p f) m i n (arguments call) under (affected_of p f m i n (arguments call) under) (affected_told p f m i n (arguments call) under) before summary (says method w) all in
+            lands_told w
+            (λ t j after thrown to is'. solves (equations.At m i entry before ∷ equations.Threw n (says_of p n c) summary ∷ []) (equations.At m j entry after) (callee_caught (calls_of c cn) thrown to end is') (now, (sound (Threw n c d x) yn, tt)))
+            (λ t thrown to. solves (equations.At m i entry before ∷ equations.Threw n (says_of p n c) summary ∷ []) (equations.Threw m entry (thrown_summary (says method w))) (callee_leaves (calls_of c cn) thrown to end) (now, (sound (Threw n c d x) yn, tt)))
+            place pn))
 
         call_each : (cs : List ℕ) → ((c : ℕ) → Contains cs c → Contains (next_words callee (handed_clauses callee (arguments call) under before) before) c)
             → AllOf Told (code.calls_with p f items s i instr.next (code.places_of p f m i method) call under n cs)
@@ -378,7 +378,7 @@ module _ (p : Parts) (f : Facts) (whole : IsWhole p) (given : AreGiven p f) wher
               let e : suc (instr.height - 1) ≡ instr.height = omega (arith, le) in
               all_one Told (Normal m a (before.slot (OnStack (instr.height - 1))) before.dirt)
               (solves (equations.At m i entry before ∷ []) (equations.Normal m entry (return_summary (before.slot (OnStack (instr.height - 1))) before))
-                (method_returns (subst (λ h. OpAt p m i (Return (Some kind)) h) (sym e) (op_is (Return (Some kind)) is))) (now, tt))
+              (method_returns (subst (λ h. OpAt p m i (Return (Some kind)) h) (sym e) (op_is (Return (Some kind)) is))) (now, tt))
           go (Return None) is le =
               all_one Told (Normal m a false before.dirt)
               (solves (equations.At m i entry before ∷ []) (equations.Normal m entry (return_summary false before)) (method_ends (op_is (Return None) is)) (now, tt))
@@ -437,19 +437,19 @@ module _ (p : Parts) (f : Facts) (whole : IsWhole p) (given : AreGiven p f) wher
           go : (op : Op) → instr.op ≡ op → pops op ≤ instr.height → AllOf Told (code.takes p f s i op instr.height)
           go (Call call) is le = all_if Told (put_in before call (instr.height - arguments call)) (code.takes_all p (takers_at f.graph m i)) (λ t.
               all_over Told (code.takes_by p (takers_at f.graph m i)) 0 (token_count p) (λ k lt.
-                all_if Told (slice_index_or (takers_at f.graph m i) k false) (Stored (code.bag p k) ∷ []) (λ taker.
-                  all_one Told (Stored (code.bag p k)) (subst (λ c. Taints p f (equations.Stored c)) (sym (bag_cell p k))
-                    (solves (equations.At m i entry before ∷ []) (equations.Stored (OfBag k))
-                      (taken (record { height = instr.height; at = op_is (Call call) is; under_is = omega (arith, le) }) (inr taker) t) (now, tt))))))
+              all_if Told (slice_index_or (takers_at f.graph m i) k false) (Stored (code.bag p k) ∷ []) (λ taker.
+              all_one Told (Stored (code.bag p k)) (subst (λ c. Taints p f (equations.Stored c)) (sym (bag_cell p k))
+              (solves (equations.At m i entry before ∷ []) (equations.Stored (OfBag k))
+              (taken (record { height = instr.height; at = op_is (Call call) is; under_is = omega (arith, le) }) (inr taker) t) (now, tt))))))
           go _ is le = all_none Told
 
       runs_told : AllOf Told (code.runs p f items s i instr)
       runs_told =
           all_both Told _ _ goes_told
           (all_both Told _ _ throws_told
-            (all_both Told _ _ (inits_told (inits_of p instr.op) (λ n inside. record { instr = instr; found = at_m; listed = inside }))
-              (all_both Told _ _ calls_told
-                (all_both Told _ _ returns_told (all_both Told _ _ writes_told takes_told)))))
+          (all_both Told _ _ (inits_told (inits_of p instr.op) (λ n inside. record { instr = instr; found = at_m; listed = inside }))
+          (all_both Told _ _ calls_told
+          (all_both Told _ _ returns_told (all_both Told _ _ writes_told takes_told)))))
 
     pub follows_told : (x : Item) → Contains items x → AllOf Told (code.follows p f items x)
     follows_told (Context m a) h = all_one Told (At m 0 a a) (solves (equations.Context m (says_of p m a) ∷ []) (equations.At m 0 (says_of p m a) (says_of p m a)) begins (sound (Context m a) h, tt))

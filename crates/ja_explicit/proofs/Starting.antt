@@ -155,7 +155,6 @@ module _ (p : Parts) (f : Facts) (whole : IsWhole p) (given : AreGiven p f) (ite
           | inr h ↦ inr (by_parts (and_parts (starts.is_reference (kind_among (is_member method.flags) (param_types method) k)) (starts.param_stores p f items entry.method.0 k) h))
         ]
           where
-
             by_parts : (starts.is_reference (kind_among (is_member method.flags) (param_types method) k) ≡ true) × (starts.param_stores p f items entry.method.0 k ≡ true) → HoldsStored (told p f) entry.method.0 method k cells
             by_parts h =
                 let t = any_some (λ t. slice_index_or (param_set f.sets entry.method.0 k) t false && starts.token_stores p f items t) (token_count p) h.1 in
@@ -178,7 +177,7 @@ module _ (p : Parts) (f : Facts) (whole : IsWhole p) (given : AreGiven p f) (ite
         opened_told w wn =
             subst (λ x. Taints p f (equations.Context entry.method.0 x)) (sym (says_found p f whole given entry.method.0 method found w))
             (solves (stored_facts it.chosen) (equations.Context entry.method.0 (says method w)) (entry_called entry it.chosen begin)
-              (each-inside (Taints p f) cells it.chosen it.inside (cells_each p (Taints p f) items (λ c inside. sound (Stored c) inside))))
+            (each-inside (Taints p f) cells it.chosen it.inside (cells_each p (Taints p f) items (λ c inside. sound (Stored c) inside))))
           where
             all : AllFit (opened_clauses method test) (says method 0) (says method w)
             all = word_all method (opened_clauses method test) (says method 0) (opened_quiet entry method listed found test (says method 0)) w wn

@@ -111,12 +111,12 @@ module _ (p : Parts) (f : Facts) (whole : IsWhole p) (given : AreGiven p f) (ite
   warns_flag : IsWarned p (Taints p f) site → rounds.is_warned p items site ≡ true
   warns_flag w = of_some (rounds.warns p site) items (At site.method.0 site.index it.entry it.word) it.listed
       (and_from (site.method.0 == site.method.0) ((site.index == site.index) && rounds.warns_in (slice_get p.methods site.method.0) site.index it.word site.positions) (eq-eqb site.method.0 site.method.0 refl)
-        (and_from (site.index == site.index) (rounds.warns_in (slice_get p.methods site.method.0) site.index it.word site.positions) (eq-eqb site.index site.index refl)
-          (subst (λ o. rounds.warns_in o site.index it.word site.positions ≡ true) (sym it.found)
-            (subst (λ o. rounds.warns_in_code it.method o it.word site.positions ≡ true) (sym it.at)
-              (subst (λ (o : Op). rounds.warns_at_op o it.instr.height (says it.method it.word) site.positions ≡ true) (sym is)
-                (of_some (λ k. (says it.method it.word).slot (argument (it.instr.height - arguments w.call) k)) site.positions w.k w.listed
-                  (subst (λ u. (says it.method it.word).slot (argument u w.k) ≡ true) (sym base) (subst (λ (x : Assignment). x.slot (argument w.under w.k) ≡ true) (sym it.same) w.true_argument))))))))
+      (and_from (site.index == site.index) (rounds.warns_in (slice_get p.methods site.method.0) site.index it.word site.positions) (eq-eqb site.index site.index refl)
+      (subst (λ o. rounds.warns_in o site.index it.word site.positions ≡ true) (sym it.found)
+      (subst (λ o. rounds.warns_in_code it.method o it.word site.positions ≡ true) (sym it.at)
+      (subst (λ (o : Op). rounds.warns_at_op o it.instr.height (says it.method it.word) site.positions ≡ true) (sym is)
+      (of_some (λ k. (says it.method it.word).slot (argument (it.instr.height - arguments w.call) k)) site.positions w.k w.listed
+      (subst (λ u. (says it.method it.word).slot (argument u w.k) ≡ true) (sym base) (subst (λ (x : Assignment). x.slot (argument w.under w.k) ≡ true) (sym it.same) w.true_argument))))))))
     where
       it : CoversAt p f items site.method.0 site.index w.a w.b
       it = covers_all p f whole given items closed (equations.At site.method.0 site.index w.a w.b) w.fact

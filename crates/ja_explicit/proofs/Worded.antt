@@ -162,19 +162,19 @@ module _ (method : Method) where
         ap (value (says method w)) (first_of (nat_lt k method.locals) (Local k) (if nat_lt k (method.locals + method.stack) then OnStack (k - method.locals) else (if nat_eq k (method.locals + method.stack) then Dirt else Exc)) local)
         ∙ value_inside w (Local k) local
     | inr past ↦ (let le = ltb-false k method.locals past in elim (cases_Bool (nat_lt k (method.locals + method.stack))) [
-        | inl stacked ↦ (let high = ltb-true k (method.locals + method.stack) stacked in
-            ap (value (says method w)) (past_locals k le ∙ first_of (nat_lt k (method.locals + method.stack)) (OnStack (k - method.locals)) (if nat_eq k (method.locals + method.stack) then Dirt else Exc) stacked)
-            ∙ value_inside w (OnStack (k - method.locals)) (lt-ltb (k - method.locals) method.stack (omega (arith, high, le)))
-            ∙ ap (bit w) (omega (arith, le)))
-        | inr over ↦ (let above = ltb-false k (method.locals + method.stack) over in elim (cases_Bool (nat_eq k (method.locals + method.stack))) [
-            | inl dirt ↦
-                ap (value (says method w)) (past_values k above ∙ first_of (nat_eq k (method.locals + method.stack)) Dirt Exc dirt)
-                ∙ ap (bit w) (sym (eqb-true k (method.locals + method.stack) dirt))
-            | inr exc ↦
-                ap (value (says method w)) (past_values k above ∙ second_of (nat_eq k (method.locals + method.stack)) Dirt Exc exc)
-                ∙ ap (bit w) (last k above lt exc)
-          ])
+      | inl stacked ↦ (let high = ltb-true k (method.locals + method.stack) stacked in
+          ap (value (says method w)) (past_locals k le ∙ first_of (nat_lt k (method.locals + method.stack)) (OnStack (k - method.locals)) (if nat_eq k (method.locals + method.stack) then Dirt else Exc) stacked)
+          ∙ value_inside w (OnStack (k - method.locals)) (lt-ltb (k - method.locals) method.stack (omega (arith, high, le)))
+          ∙ ap (bit w) (omega (arith, le)))
+      | inr over ↦ (let above = ltb-false k (method.locals + method.stack) over in elim (cases_Bool (nat_eq k (method.locals + method.stack))) [
+        | inl dirt ↦
+            ap (value (says method w)) (past_values k above ∙ first_of (nat_eq k (method.locals + method.stack)) Dirt Exc dirt)
+            ∙ ap (bit w) (sym (eqb-true k (method.locals + method.stack) dirt))
+        | inr exc ↦
+            ap (value (says method w)) (past_values k above ∙ second_of (nat_eq k (method.locals + method.stack)) Dirt Exc exc)
+            ∙ ap (bit w) (last k above lt exc)
       ])
+    ])
   ]
     where
       last : (k : ℕ) → method.locals + method.stack ≤ k → k < slot_count method → nat_eq k (method.locals + method.stack) ≡ false → method.locals + method.stack + 1 ≡ k

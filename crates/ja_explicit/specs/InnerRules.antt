@@ -42,7 +42,6 @@ IsReady (Opened o) = Unit {0}
 abbrev pub standing : code.Standing → Standing
 standing s = record { method = s.method.now; m = s.m; a = s.entry; b = s.word }
 
-
 -- the way through a method that the code goes
 abbrev pub passage : way.Passage → Passage
 passage w = record { n = w.n; c = w.given; under = w.through.under; answers = w.answers; affected = affected_by w.through; next = w.next.now; places = map place_meant w.places.now }

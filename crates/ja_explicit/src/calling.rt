@@ -97,7 +97,15 @@ fn add_calls_with(
     ensures { OnOk result (out.new ≡ out.old ++ steps.calls_with p.now facts.now (items_of table.now) (standing standing_at.now) i next.now (map place_meant places.now) call.now under n words.now) }
 {
     let count = arguments(call) as u32;
-    let through = Through::of(p, facts, MethodId(standing_at.m), i, MethodId(n), count, under);
+    let through = Through::of(
+        p,
+        facts,
+        MethodId(standing_at.m),
+        i,
+        MethodId(n),
+        count,
+        under,
+    );
     for word in words {
         let way = Passage {
             n: n as u64,
@@ -189,7 +197,19 @@ fn add_calls_target(
     }
     let callee = p.methods().at(n);
     add_calls_method(
-        alloc, out, p, facts, table, standing_at, i, next, places, call, under, n as u32, callee,
+        alloc,
+        out,
+        p,
+        facts,
+        table,
+        standing_at,
+        i,
+        next,
+        places,
+        call,
+        under,
+        n as u32,
+        callee,
     )
 }
 
@@ -216,7 +236,18 @@ fn add_calls_each(
 {
     for n in targets {
         add_calls_target(
-            alloc, out, p, facts, table, standing_at, i, next, places, call, under, *n,
+            alloc,
+            out,
+            p,
+            facts,
+            table,
+            standing_at,
+            i,
+            next,
+            places,
+            call,
+            under,
+            *n,
         )?;
     }
     Ok(())

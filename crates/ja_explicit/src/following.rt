@@ -47,7 +47,17 @@ fn add_runs_by(
     add_throws(alloc, out, standing_at, here, places)?;
     add_initializes(alloc, out, p, facts, table, standing_at, i, height, op)?;
     add_calls(
-        alloc, out, p, facts, table, standing_at, i, next, places, op, height,
+        alloc,
+        out,
+        p,
+        facts,
+        table,
+        standing_at,
+        i,
+        next,
+        places,
+        op,
+        height,
     )?;
     add_returns(out, standing_at, op, height)?;
     add_writes(out, p, standing_at, op, height)?;
@@ -117,7 +127,16 @@ fn add_runs_in(
     if !instr.reached {
         return Ok(());
     }
-    add_runs(alloc, out, p, facts, table, standing_at, index as u32, instr)
+    add_runs(
+        alloc,
+        out,
+        p,
+        facts,
+        table,
+        standing_at,
+        index as u32,
+        instr,
+    )
 }
 
 // Adds what follows where an instruction of a program is come to.

@@ -67,11 +67,7 @@ fn first_wide(p: &Program) -> Option<(MethodId, u32)>
 ///
 /// It keeps each fact in words and applies all rules until nothing is new: a slow reference for the solver
 /// on diagrams.
-pub fn solve_plain(
-    alloc: Global,
-    p: &Program,
-    facts: &Facts,
-) -> Result<PlainSolution, PlainFault>
+pub fn solve_plain(alloc: Global, p: &Program, facts: &Facts) -> Result<PlainSolution, PlainFault>
     requires given { AreGiven p.now facts.now }
     ensures exact { IfOk result (λ warned. AreVerdictsOf p.now (λ c. Taints p.now facts.now) p.now.sites warned) }
     ensures narrow { IfOk result (λ warned. AreNarrow p.now) }

@@ -117,7 +117,13 @@ fn normal_words(alloc: Global, standing_at: &Standing, here: &Here) -> Result<Se
         return Ok(Seq::new(alloc));
     }
     let method = standing_at.method;
-    next_words(alloc, method, &Rule::Normal(*here), method, standing_at.word)
+    next_words(
+        alloc,
+        method,
+        &Rule::Normal(*here),
+        method,
+        standing_at.word,
+    )
 }
 
 /// Adds what follows of the normal end of an instruction.

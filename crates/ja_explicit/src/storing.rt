@@ -87,12 +87,7 @@ fn puts_in(standing_at: &Standing, call: &CallOp, height: u32) -> bool
     ensures { result ≡ formulas.put_in (steps.present (standing standing_at.now)) call.now (height - operations.arguments call.now) }
 {
     let count = arguments(call) as u32;
-    let any = some_stacked(
-        standing_at.method,
-        standing_at.word,
-        height - count,
-        count,
-    );
+    let any = some_stacked(standing_at.method, standing_at.word, height - count, count);
     match call.row.flow {
         RowFlow::Always => true,
         RowFlow::Never | RowFlow::Args => any,
@@ -100,12 +95,7 @@ fn puts_in(standing_at: &Standing, call: &CallOp, height: u32) -> bool
 }
 
 // Adds that something tainted is in the bags of a token, if that is in a set.
-fn add_taker(
-    out: &mut Seq<Item>,
-    p: &Program,
-    takers: &TokenSet,
-    token: u32,
-) -> Result<(), Memory>
+fn add_taker(out: &mut Seq<Item>, p: &Program, takers: &TokenSet, token: u32) -> Result<(), Memory>
     ensures { OnOk result (out.new ≡ out.old ++ steps.takes_by p.now takers.now token) }
 {
     if is_in(takers, token) {

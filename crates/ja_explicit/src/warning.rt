@@ -70,7 +70,10 @@ fn warns(p: &Program, site: &Site, item: Item) -> bool
 {
     match item {
         Item::At {
-            method, index, now, ..
+            method,
+            index,
+            now,
+            ..
         } => {
             method == site.method.0 as u64
                 && index == site.index as u64

@@ -2,7 +2,6 @@ use Rattle.std.proofs.Common.{◌≡◌, ◌++◌, drop}
 use Rattle.ja_explicit.specs.InnerSteps as steps
 use Rattle.ja_explicit.specs.InnerRules.{standing}
 use Rattle.ja_explicit.specs.Tables.{items_of}
-use Rattle.ja_ir.specs.Initializing.{inits_of}
 use Rattle.ja_explicit.proofs.calling.add_initializes.Given as goal
 
 abbrev pub invariant-loop-n : goal.invariant-loop-n

@@ -1,4 +1,4 @@
-use Rattle.std.proofs.Common.{◌++◌, ◌≡◌, Option, Some, None, List, sym, ap, ◌∙◌}
+use Rattle.std.proofs.Common.{◌≡◌, Option, Some, None, List, sym, ap, ◌∙◌}
 use Rattle.std.specs.Prelude.{slice_get}
 use Rattle.std.proofs.lemmas.Option.{slice_get_past}
 use Rattle.ja_ir.specs.declared.method.Method.{Method}
@@ -13,7 +13,7 @@ pub returns-then-entry-len : goal.returns-then-entry-len
 returns-then-entry-len c =
     let e = c.args.entry.now in
     let none : slice_get c.args.p.now.methods e.method.0 ≡ None =
-        slice_get_past c.args.p.now.methods e.method.0 (past_found c.args.p.now.methods c.methods.result.now c.len.result e.method.0 c.len.ensures c.methods.ensures.same c.if-entry-len.true) in
+    slice_get_past c.args.p.now.methods e.method.0 (past_found c.args.p.now.methods c.methods.result.now c.len.result e.method.0 c.len.ensures c.methods.ensures.same c.if-entry-len.true) in
     chain_none c.args.out.now c.add_initializers_of.new.out (starts.initializers (inits_of_class (slice_get c.args.p.now.classes e.class.0))) (starts.opens c.args.p.now c.args.facts.now (items_of c.args.table.now) e (slice_get c.args.p.now.methods e.method.0))
     c.in_ok-add_initializers_of.ensures (ap (λ (o : Option Method). starts.opens c.args.p.now c.args.facts.now (items_of c.args.table.now) e o) none)
 

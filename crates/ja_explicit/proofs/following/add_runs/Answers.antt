@@ -1,10 +1,9 @@
-use Rattle.std.proofs.Common.{ℕ, map, List, ◌++◌, ◌≡◌, ◌∙◌, ap}
+use Rattle.std.proofs.Common.{ℕ, map, List, ◌++◌, ◌∙◌, ap}
 use Rattle.ja_ir.specs.Handlers.{Place}
 use Rattle.ja_tokens.specs.declared.place.ThrownTo.{ThrownTo}
 use Rattle.ja_tokens.specs.Shapes.{place_meant}
 use Rattle.ja_work.specs.Ends.{Tests}
 use Rattle.ja_work.specs.Told.{tests_of}
-use Rattle.ja_explicit.specs.declared.item.Item.{Item}
 use Rattle.ja_explicit.specs.Tables.{items_of}
 use Rattle.ja_explicit.specs.InnerSteps as steps
 use Rattle.ja_explicit.specs.InnerRules.{standing}

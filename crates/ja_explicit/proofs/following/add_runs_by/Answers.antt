@@ -1,8 +1,7 @@
-use Rattle.std.proofs.Common.{map, List, ◌++◌, ◌≡◌}
+use Rattle.std.proofs.Common.{map, ◌++◌}
 use Rattle.ja_ir.specs.Initializing.{inits_of}
 use Rattle.ja_clauses.specs.Tables.{tests_by}
 use Rattle.ja_tokens.specs.Shapes.{place_meant}
-use Rattle.ja_explicit.specs.declared.item.Item.{Item}
 use Rattle.ja_explicit.specs.Tables.{items_of}
 use Rattle.ja_explicit.specs.InnerSteps as steps
 use Rattle.ja_explicit.specs.InnerRules.{standing}

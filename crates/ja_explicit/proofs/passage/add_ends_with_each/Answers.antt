@@ -1,5 +1,4 @@
-use Rattle.std.proofs.Common.{◌++◌, ◌≡◌, Some, List, drop, sym, ap, ◌∙◌, ◌+◌, append_assoc}
-use Rattle.std.specs.Prelude.{slice_get}
+use Rattle.std.proofs.Common.{◌++◌, List, drop, sym, ap, ◌∙◌, ◌+◌, append_assoc}
 use Rattle.ja_explicit.specs.declared.item.Item.{Item}
 use Rattle.ja_explicit.specs.Tables.{items_of}
 use Rattle.ja_explicit.specs.InnerSteps as steps

@@ -1,4 +1,4 @@
-use Rattle.std.proofs.Common.{sym, subst, ◌≡◌, ◌↔◌, ◌⊎◌, List, take, false, get_or}
+use Rattle.std.proofs.Common.{subst, ◌↔◌, ◌⊎◌, List, get_or}
 use Rattle.std.proofs.lemmas.List.{get_or_default}
 use Rattle.ja_explicit.specs.declared.item.Item.TheVariants.{Context}
 use Rattle.std.specs.Prelude.{Contains}

@@ -1,4 +1,4 @@
-use Rattle.std.proofs.Common.{◌≡◌, sym, ◌∙◌, arith, false, ◌||◌}
+use Rattle.std.proofs.Common.{sym, ◌∙◌, arith}
 use Rattle.ja_explicit.specs.Tables.{items_of}
 use Rattle.ja_explicit.proofs.Rounds.{both_false, listed_at, idle_more, settled_more, closed_after}
 use Rattle.ja_explicit.proofs.solve.round.Goals as goal

@@ -1,4 +1,4 @@
-use Rattle.std.proofs.Common.{ℕ, ◌-◌, append-nil, ◌≡◌, ◌≤◌, List, length, sym, arith, ◌∷◌, [], ◌++◌, ap, ◌∙◌}
+use Rattle.std.proofs.Common.{ℕ, ◌-◌, append-nil, ◌≡◌, List, length, sym, arith, ◌∷◌, [], ◌++◌, ap, ◌∙◌}
 use Rattle.ja_explicit.specs.declared.chance.Chance.{Chance}
 use Rattle.ja_explicit.specs.InnerWords as words
 use Rattle.ja_explicit.specs.InnerRules.{clauses_of}
@@ -25,4 +25,3 @@ returns-clause-few c =
     let counted = over_length (words.chance c.args.to.now (clauses_of c.args.rule.now) (words.says c.args.from.now c.args.word)) 0 (slot_count c.args.to.now) in
     let same : length c.loop-n.list ≡ slot_count c.args.to.now = ap (λ (xs : List Chance). length xs) all ∙ counted in
     omega (arith, same, c.requires.to)
-

@@ -1,4 +1,4 @@
-use Rattle.std.proofs.Common.{◌≡◌, ℕ, ◌≤◌, ◌++◌, List, length, sym, subst, ap, ◌∙◌, arith, le_trans}
+use Rattle.std.proofs.Common.{◌≤◌, ◌++◌, List, length, sym, subst, ap, ◌∙◌, arith}
 use Rattle.ja_explicit.specs.declared.chance.Chance.{Chance}
 use Rattle.ja_explicit.specs.InnerWords as words
 use Rattle.ja_explicit.specs.InnerRules.{clauses_of}

@@ -1,4 +1,4 @@
-use Rattle.std.proofs.Common.{◌≡◌, ℕ, ◌*◌, ◌^◌, ◌%◌, ◌<◌, ◌≤◌, ◌∙◌, ap, sym, arith, mod-eq_of_lt}
+use Rattle.std.proofs.Common.{◌≡◌, ℕ, ◌*◌, ◌^◌, ◌%◌, ◌≤◌, ◌∙◌, ap, arith, mod-eq_of_lt}
 use Rattle.ja_facts.specs.FactTables.{slot_count}
 use Rattle.ja_explicit.proofs.Looping.{power_small}
 use Rattle.ja_explicit.proofs.stepping.word_count.Goals as goal

@@ -13,7 +13,7 @@ pub returns-then-field-len : goal.returns-then-field-len
 returns-then-field-len c =
     let rows = c.args.facts.now.holds.fields in
     let past : slice_index_or rows c.args.field.0 [] ≡ [] = past_end rows c.args.field.0 []
-        (subst (λ (n : ℕ). n ≤ c.args.field.0) (c.len.ensures ∙ ap (λ (fs : List Field). length fs) c.fields.ensures.same ∙ sym c.requires) c.if-field-len.true) in
+    (subst (λ (n : ℕ). n ≤ c.args.field.0) (c.len.ensures ∙ ap (λ (fs : List Field). length fs) c.fields.ensures.same ∙ sym c.requires) c.if-field-len.true) in
     sym
     (nothing_below (λ k. slice_index_or (slice_index_or rows c.args.field.0 []) k false && steps.stores (items_of c.args.table.now) k) (cell_count c.args.p.now)
     (λ k. ap (λ (row : List Bool). slice_index_or row k false && steps.stores (items_of c.args.table.now) k) past))

@@ -1,4 +1,4 @@
-use Rattle.std.proofs.Common.{◌≡◌, ◌∷◌, [], ◌++◌, Bool, List, ap, ◌∙◌, map}
+use Rattle.std.proofs.Common.{◌∷◌, [], ◌++◌, Bool, ap, ◌∙◌}
 use Rattle.ja_explicit.specs.Tables.{items_of}
 use Rattle.ja_explicit.specs.InnerRounds as rounds
 use Rattle.ja_explicit.proofs.Looping.{map_more}

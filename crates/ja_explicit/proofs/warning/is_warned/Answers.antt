@@ -1,4 +1,4 @@
-use Rattle.std.proofs.Common.{◌≡◌, ◌||◌, ◌+◌, Bool, List, drop, sym, ap, ◌∙◌}
+use Rattle.std.proofs.Common.{◌||◌, ◌+◌, Bool, List, drop, sym, ap, ◌∙◌}
 use Rattle.ja_explicit.specs.declared.item.Item.{Item}
 use Rattle.ja_explicit.specs.Tables.{items_of}
 use Rattle.ja_explicit.specs.InnerRounds as rounds
