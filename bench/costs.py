@@ -2,6 +2,7 @@
 import glob
 import os
 import resource
+import signal
 import subprocess
 import sys
 import time
@@ -21,17 +22,24 @@ def kind_of(run):
 
 
 def gate(words, log):
-    """Runs rt ci: the prover's runs that were its own, with the edit that each tries, its status, and how many seconds it took."""
+    """Runs rt ci: the prover's runs that were its own, with the edit that each tries, its status (None where it was interrupted), and how many
+    seconds it took."""
     crates = {it.split("/")[1] for it in glob.glob("crates/*/must-fail/*.edit")}
     edits = {crate: {it: edited(crate, it)[0] for it in glob.glob(f"crates/{crate}/must-fail/*.edit")} for crate in crates}
     runs, own, begun = Runs(), {}, time.monotonic()
     rt = subprocess.Popen(["rt", "ci", "--anew", *words], stdin=subprocess.DEVNULL, stdout=log, stderr=subprocess.STDOUT)
-    while rt.poll() is None:
-        for run in runs.look():
-            # (rt names its folders after itself; others may use the prover meanwhile)
-            if run.folder.startswith(f"{os.getcwd()}/crates/") or f"-{rt.pid}-" in run.folder:
-                own[run] = edit_in(run.folder, edits.get(run.crate(), {})) if kind_of(run) == "edits" else None
-        time.sleep(0.25)
+    try:
+        while rt.poll() is None:
+            for run in runs.look():
+                # (rt names its folders after itself; others may use the prover meanwhile)
+                if run.folder.startswith(f"{os.getcwd()}/crates/") or f"-{rt.pid}-" in run.folder:
+                    own[run] = edit_in(run.folder, edits.get(run.crate(), {})) if kind_of(run) == "edits" else None
+            time.sleep(0.25)
+    except KeyboardInterrupt:
+        # (what was seen so far is worth its table)
+        rt.terminate()
+        rt.wait()
+        return own, None, time.monotonic() - begun
     return own, rt.returncode, time.monotonic() - begun
 
 
@@ -60,17 +68,18 @@ def table(own, all_minutes):
 
 def main(words):
     load = os.getloadavg()
+    signal.signal(signal.SIGTERM, signal.default_int_handler)
     file, *words = words
     with open(file, "w+", errors="replace") as log:
         own, status, seconds = gate(words, log)
         log.seek(0)
-        last = log.read().rstrip("\n").split("\n")[-1]
+        last = "interrupted" if status is None else log.read().rstrip("\n").split("\n")[-1]
     used = resource.getrusage(resource.RUSAGE_CHILDREN)
     print(table(own, (used.ru_utime + used.ru_stime) / 60))
     print(f"\n`rt ci --anew{''.join(' ' + it for it in words)}` on {os.cpu_count()} processors: {last}, in {seconds / 60:.1f} minutes;", end=" ")
     print(f"{(used.ru_utime + used.ru_stime) / 60:.0f} processor minutes; load before it {load[0]:.1f}, at its end {os.getloadavg()[0]:.1f}.", end=" ")
     print(slow_edits(own))
-    return status
+    return 130 if status is None else status
 
 
 if __name__ == "__main__":

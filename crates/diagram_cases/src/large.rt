@@ -28,22 +28,40 @@ fn chain(pool: &mut Pool, table: &NodeTable<AnyAim>, last: bool) -> Result<usize
 }
 
 /// Adds what becomes of two chains that differ in the last variable.
-pub fn add_chains(out: &mut String, alloc: Global) -> Result<(), Memory> {
-    let (table, seat) = NodeTable::new(alloc, 65536, AnyAim)?;
-    let mut pool = Pool::new(alloc, &table, seat)?;
-    let mut a = Assign::new(alloc)?;
-    let f = chain(&mut pool, &table, true)?;
-    let g = chain(&mut pool, &table, false)?;
-    let none = pool.step(&table, Step::And, f, g)?;
-    let either = pool.step(&table, Step::Or, f, g)?;
-    let rest = pool.step(&table, Step::Exists(LAST), f, 0)?;
-    let picked = pool.pick(&table, g, &mut a)?;
+pub fn add_chains(
+    out: &mut String,
+    alloc: Global,
+    pool: &mut Pool,
+    table: &NodeTable<AnyAim>,
+) -> Result<(), Memory>
+    requires { IsWorkerOf table.now pool.old.worker × All (λ n. Knows (seen pool.old.worker) n.number) pool.old.nodes.items }
+{
+    let f = chain(pool, table, true)?;
+    let g = chain(pool, table, false)?;
+    let none = pool.step(table, Step::And, f, g)?;
+    let either = pool.step(table, Step::Or, f, g)?;
+    let rest = pool.step(table, Step::Exists(LAST), f, 0)?;
     let none = pool.number(none) == Some(0);
     let same = pool.number(either) == pool.number(rest);
     writeln!(
         out,
         "chains: both is false {none}, either is one without its last {same}"
     )?;
+    add_picked(out, alloc, pool, table, g)
+}
+
+/// Adds whether a function has an assignment, and three of its values.
+fn add_picked(
+    out: &mut String,
+    alloc: Global,
+    pool: &mut Pool,
+    table: &NodeTable<AnyAim>,
+    at: usize,
+) -> Result<(), Memory>
+    requires { IsWorkerOf table.now pool.old.worker × All (λ n. Knows (seen pool.old.worker) n.number) pool.old.nodes.items }
+{
+    let mut a = Assign::new(alloc)?;
+    let picked = pool.pick(table, at, &mut a)?;
     Ok(writeln!(
         out,
         "picked {picked}: {} {} {}",
@@ -74,16 +92,16 @@ fn kept(pool: &mut Pool, table: &NodeTable<AnyAim>, one: u32, other: u32) -> Res
 }
 
 /// Adds whether keeping 500 slots twice is keeping them once.
-pub fn add_kept(out: &mut String, alloc: Global) -> Result<(), Memory> {
-    let (table, seat) = NodeTable::new(alloc, 1 << 22, AnyAim)?;
-    let mut pool = Pool::new(alloc, &table, seat)?;
-    let first = kept(&mut pool, &table, 0, 1)?;
-    let second = kept(&mut pool, &table, 1, 2)?;
-    let mut composed = pool.step(&table, Step::And, first, second)?;
+pub fn add_kept(out: &mut String, pool: &mut Pool, table: &NodeTable<AnyAim>) -> Result<(), Memory>
+    requires { IsWorkerOf table.now pool.old.worker × All (λ n. Knows (seen pool.old.worker) n.number) pool.old.nodes.items }
+{
+    let first = kept(pool, table, 0, 1)?;
+    let second = kept(pool, table, 1, 2)?;
+    let mut composed = pool.step(table, Step::And, first, second)?;
     for slot in 0..SLOTS {
-        composed = pool.step(&table, Step::Exists(4 * slot + 1), composed, 0)?;
+        composed = pool.step(table, Step::Exists(4 * slot + 1), composed, 0)?;
     }
-    let whole = kept(&mut pool, &table, 0, 2)?;
+    let whole = kept(pool, table, 0, 2)?;
     let same = pool.number(composed) == pool.number(whole);
     Ok(writeln!(out, "keeping slots twice keeps them {same}")?)
 }

@@ -4,13 +4,15 @@ ghost use Rattle.ja_node_core.specs.Node.{Knows};
 ghost use Rattle.ja_node_table.specs.Seats.{IsOf, known};
 
 use crate::pool::LAST;
+use case_text::words_of;
 use ja_base::{MAX_SLOTS, MIN_SLOTS, Memory};
 use ja_node_core::AnyAim;
 use ja_node_table::{Full, Node, NodeSeat, NodeTable, Parts};
-use std::alloc::{AllocError, Global};
+use std::alloc::Global;
 use std::thread::{Threads, join};
 
-fn constant(value: bool) -> Node
+/// The node of a constant.
+pub fn constant(value: bool) -> Node
     ensures { result.number < 2 }
 {
     if value { Node::TRUE } else { Node::FALSE }
@@ -63,15 +65,6 @@ fn asked_by(by_number: bool, var: &str, lo: &str, hi: &str) -> Asked
         lo: lo == "1",
         hi: hi == "1",
     }
-}
-
-/// The words of a line.
-fn words_of<'a>(alloc: Global, line: &'a str) -> Result<Vec<&'a str>, AllocError> {
-    let mut words = Vec::new(alloc);
-    for word in line.split_whitespace() {
-        words.push(word)?;
-    }
-    Ok(words)
 }
 
 /// The place of a number among those that were printed, where it is put if it is new.

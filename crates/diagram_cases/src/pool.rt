@@ -9,7 +9,7 @@ ghost use Rattle.ja_join.specs.Composed.{LooksIn};
 
 use ja_base::Memory;
 use ja_bdd::{Assign, Copies, Worker};
-use ja_join::{Memo, Rule, after, looks_in, project, step};
+use ja_join::{Memo, Rule, after, holds_with, looks_in, project, step, step_with};
 use ja_node_core::AnyAim;
 use ja_node_table::{Node, NodeSeat, NodeTable, Parts};
 use std::alloc::Global;
@@ -232,6 +232,44 @@ impl Pool {
         };
         self.nodes.push(made)?;
         Ok(self.nodes.len() - 1)
+    }
+
+    /// What a rule makes of a node together with one over a callee's variables, by its place.
+    pub fn stepped_with(
+        &mut self,
+        table: &NodeTable<AnyAim>,
+        memo: &mut Memo,
+        rule: &Rule,
+        r: usize,
+        told: usize,
+    ) -> Result<usize, Memory>
+        requires { IsWorkerOf table.now self.old.worker × All (λ n. Knows (seen self.old.worker) n.number) self.old.nodes.items }
+        ensures { OnOk result (IsWorkerOf table.now self.new.worker × All (λ n. Knows (seen self.new.worker) n.number) self.new.nodes.items) }
+    {
+        let r = self.node(r)?;
+        let told = self.node(told)?;
+        let Ok(made) = step_with(&mut self.worker, memo, table, rule, r, told) else {
+            return Err(Memory);
+        };
+        self.nodes.push(made)?;
+        Ok(self.nodes.len() - 1)
+    }
+
+    /// Whether a node is true where a variable is, under another node.
+    pub fn holds(
+        &mut self,
+        table: &NodeTable<AnyAim>,
+        memo: &mut Memo,
+        r: usize,
+        context: usize,
+        var: u32,
+    ) -> Result<bool, Memory>
+        requires { IsWorkerOf table.now self.old.worker × All (λ n. Knows (seen self.old.worker) n.number) self.old.nodes.items }
+        ensures { OnOk result (IsWorkerOf table.now self.new.worker × All (λ n. Knows (seen self.new.worker) n.number) self.new.nodes.items) }
+    {
+        let r = self.node(r)?;
+        let context = self.node(context)?;
+        Ok(holds_with(&mut self.worker, memo, table, r, context, var.min(LAST)))
     }
 
     /// The value of a node at a point.

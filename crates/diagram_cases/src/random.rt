@@ -110,35 +110,73 @@ fn drawn(round: u32, random: u64) -> Step {
     }
 }
 
-/// Adds how many functions, each made of two earlier ones, have their values at all points, and an assignment
-/// where they have one.
-pub fn add_random(out: &mut String, alloc: Global) -> Result<(), Memory> {
-    let (table, seat) = NodeTable::new(alloc, 65536, AnyAim)?;
-    let mut pool = Pool::new(alloc, &table, seat)?;
-    let mut a = Assign::new(alloc)?;
-    let mut values = vec![in alloc; [0u64; 64], [u64::MAX; 64]]?;
+/// The values that an operation of two functions with these places is to give.
+fn wanted_of(step: Step, values: &[Values], f: usize, g: usize) -> Result<Values, Memory> {
+    match (values.get(f), values.get(g)) {
+        (Some(f), Some(g)) => Ok(expected(step, f, g)),
+        _ => Err(Memory),
+    }
+}
+
+/// Makes the function of a round of two earlier ones. Answers whether it has its values at all points, and an
+/// assignment where it has one.
+fn is_right(
+    pool: &mut Pool,
+    table: &NodeTable<AnyAim>,
+    a: &mut Assign,
+    values: &mut Vec<Values>,
+    round: u32,
+    random: u64,
+) -> Result<bool, Memory>
+    requires { IsWorkerOf table.now pool.old.worker × All (λ n. Knows (seen pool.old.worker) n.number) pool.old.nodes.items }
+    ensures { OnOk result (IsWorkerOf table.now pool.new.worker × All (λ n. Knows (seen pool.new.worker) n.number) pool.new.nodes.items) }
+{
+    let f = (random >> 44) as usize % (round as usize + 2);
+    let g = (random >> 24 & 0xfffff) as usize % (round as usize + 2);
+    let step = drawn(round, random);
+    let wanted = wanted_of(step, values.as_slice(), f, g)?;
+    values.push(wanted)?;
+    let at = pool.step(table, step, f, g)?;
+    let agrees = agrees(pool, table, at, &wanted)?;
+    let some = wanted.iter().any(|word| *word != 0);
+    let picked = pool.pick(table, at, a)?;
+    Ok(agrees && picked == some)
+}
+
+/// How many functions, each made of two earlier ones, are right.
+fn count(
+    pool: &mut Pool,
+    table: &NodeTable<AnyAim>,
+    a: &mut Assign,
+    values: &mut Vec<Values>,
+) -> Result<u32, Memory>
+    requires { IsWorkerOf table.now pool.old.worker × All (λ n. Knows (seen pool.old.worker) n.number) pool.old.nodes.items }
+{
     let mut random = 1u64;
     let mut right = 0u32;
     for round in 0..200 {
         random = random
             .wrapping_mul(0x5851_f42d_4c95_7f2d)
             .wrapping_add(0x1405_7b7e_f767_814f);
-        let f = (random >> 44) as usize % (round as usize + 2);
-        let g = (random >> 24 & 0xfffff) as usize % (round as usize + 2);
-        let step = drawn(round, random);
-        let at = pool.step(&table, step, f, g)?;
-        let wanted = expected(
-            step,
-            values.get(f).ok_or(Memory)?,
-            values.get(g).ok_or(Memory)?,
-        );
-        let agrees = agrees(&mut pool, &table, at, &wanted)?;
-        let some = wanted.iter().any(|word| *word != 0);
-        let picked = pool.pick(&table, at, &mut a)?;
-        if agrees && picked == some {
+        if is_right(pool, table, a, values, round, random)? {
             right = right.saturating_add(1);
         }
-        values.push(wanted)?;
     }
+    Ok(right)
+}
+
+/// Adds how many functions, each made of two earlier ones, have their values at all points, and an assignment
+/// where they have one.
+pub fn add_random(
+    out: &mut String,
+    alloc: Global,
+    pool: &mut Pool,
+    table: &NodeTable<AnyAim>,
+) -> Result<(), Memory>
+    requires { IsWorkerOf table.now pool.old.worker × All (λ n. Knows (seen pool.old.worker) n.number) pool.old.nodes.items }
+{
+    let mut a = Assign::new(alloc)?;
+    let mut values = vec![in alloc; [0u64; 64], [u64::MAX; 64]]?;
+    let right = count(pool, table, &mut a, &mut values)?;
     Ok(writeln!(out, "random functions: {right} of 200 have their values")?)
 }

@@ -1,5 +1,5 @@
 //! Renaming.
-ghost use Rattle.std.specs.Prelude.{◌≤◌, IfSome};
+ghost use Rattle.std.specs.Prelude.{◌≤◌, IfSome, OnOk};
 ghost use Rattle.ja_node_core.specs.Node.{Knows};
 ghost use Rattle.ja_bdd.specs.Workers.{IsWorkerOf, seen};
 
@@ -31,24 +31,37 @@ fn literal_and_partner(
 }
 
 /// Adds what a renaming makes of the node of a variable.
-pub fn add_renamed(out: &mut String, alloc: Global) -> Result<(), Memory> {
-    let (table, seat) = NodeTable::new(alloc, 65536, AnyAim)?;
-    let mut worker = Worker::new(alloc, seat).ok().ok_or(Memory)?;
+fn add_shifted(
+    out: &mut String,
+    table: &NodeTable<AnyAim>,
+    worker: &mut Worker<AnyAim>,
+) -> Result<(), Memory>
+    requires { IsWorkerOf table.now worker.old }
+    ensures { OnOk result (IsWorkerOf table.now worker.new) }
+{
     let mut m = Renaming::new();
     m.put(0, 2);
-    let Some((a, shifted)) = literal_and_partner(&table, &mut worker, 0, &m) else {
+    let Some((a, shifted)) = literal_and_partner(table, worker, 0, &m) else {
         return Ok(writeln!(out, "renamed: no room")?);
     };
     let other = worker.same(a, shifted);
     let same = worker.same(a, a);
     if shifted.number > 1 {
-        let parts = worker.parts(&table, shifted);
+        let parts = worker.parts(table, shifted);
         writeln!(
             out,
             "renamed: variable {} low {} high {} same {other} {same}",
             parts.var, parts.lo.number, parts.hi.number
         )?;
     }
+    Ok(())
+}
+
+/// Adds what a renaming makes of the node of a variable, by a worker whose seat is given and taken.
+pub fn add_renamed(out: &mut String, alloc: Global) -> Result<(), Memory> {
+    let (table, seat) = NodeTable::new(alloc, 65536, AnyAim)?;
+    let mut worker = Worker::new(alloc, seat).ok().ok_or(Memory)?;
+    add_shifted(out, &table, &mut worker)?;
     let given = worker.give_seat(&table);
     worker.take_seat(&table, given);
     Ok(())

@@ -5,10 +5,10 @@ ghost use Rattle.ja_node_core.specs.Node.{Knows};
 ghost use Rattle.ja_bdd.specs.Workers.{IsWorkerOf, seen};
 
 use crate::pool::{Pool, Step};
-use crate::rules::{copy, guess, mix, mix_before, narrow, none};
+use crate::rules::RuleName;
 use ja_base::Memory;
 use ja_bdd::Copies;
-use ja_join::{Memo, Rule};
+use ja_join::Memo;
 use ja_node_core::AnyAim;
 use ja_node_table::NodeTable;
 use std::alloc::Global;
@@ -130,110 +130,149 @@ fn add_relation(
     Ok(out.push('\n')?)
 }
 
-/// Adds what a rule makes of a relation, and answers its place.
-fn add_step(
+/// Adds what the rule of a name makes of a relation, and answers its place.
+fn add_by(
     out: &mut String,
+    alloc: Global,
     pool: &mut Pool,
     table: &NodeTable<AnyAim>,
     memo: &mut Memo,
-    name: &str,
-    rule: &Rule,
+    rule: RuleName,
     r: usize,
 ) -> Result<usize, Memory>
     requires { IsWorkerOf table.now pool.old.worker × All (λ n. Knows (seen pool.old.worker) n.number) pool.old.nodes.items }
     ensures { OnOk result (IsWorkerOf table.now pool.new.worker × All (λ n. Knows (seen pool.new.worker) n.number) pool.new.nodes.items) }
 {
-    let made = pool.stepped(table, memo, rule, r)?;
-    add_relation(out, pool, table, name, made)?;
+    let made = stepped_by(alloc, pool, table, memo, rule, r)?;
+    add_relation(out, pool, table, rule.text(), made)?;
     Ok(made)
 }
 
+/// Makes what the rule of a name makes of a relation, and answers its place.
+fn stepped_by(
+    alloc: Global,
+    pool: &mut Pool,
+    table: &NodeTable<AnyAim>,
+    memo: &mut Memo,
+    rule: RuleName,
+    r: usize,
+) -> Result<usize, Memory>
+    requires { IsWorkerOf table.now pool.old.worker × All (λ n. Knows (seen pool.old.worker) n.number) pool.old.nodes.items }
+    ensures { OnOk result (IsWorkerOf table.now pool.new.worker × All (λ n. Knows (seen pool.new.worker) n.number) pool.new.nodes.items) }
+{
+    let rule = rule.rule(alloc)?;
+    pool.stepped(table, memo, &rule, r)
+}
+
 /// Adds what each rule makes of the relation that keeps all slots.
-fn add_rules(out: &mut String, alloc: Global) -> Result<(), Memory> {
-    let (table, seat) = NodeTable::new(alloc, 65536, AnyAim)?;
-    let mut pool = Pool::new(alloc, &table, seat)?;
-    let mut memo = Memo::new(alloc, 1024)?;
-    let start = kept(&mut pool, &table, [1, 5, 9], [0, 4, 8])?;
-    let rule = copy(alloc)?;
-    add_step(out, &mut pool, &table, &mut memo, "copy", &rule, start)?;
-    let rule = mix(alloc)?;
-    add_step(out, &mut pool, &table, &mut memo, "mix", &rule, start)?;
-    let rule = mix_before(alloc)?;
-    add_step(
-        out,
-        &mut pool,
-        &table,
-        &mut memo,
-        "mix before",
-        &rule,
-        start,
-    )?;
-    let rule = guess(alloc)?;
-    add_step(out, &mut pool, &table, &mut memo, "guess", &rule, start)?;
-    let rule = narrow(alloc)?;
-    add_step(out, &mut pool, &table, &mut memo, "narrow", &rule, start)?;
-    let rule = none(alloc);
-    add_step(out, &mut pool, &table, &mut memo, "none", &rule, start)?;
+pub fn add_rules(
+    out: &mut String,
+    alloc: Global,
+    pool: &mut Pool,
+    table: &NodeTable<AnyAim>,
+    memo: &mut Memo,
+) -> Result<(), Memory>
+    requires { IsWorkerOf table.now pool.old.worker × All (λ n. Knows (seen pool.old.worker) n.number) pool.old.nodes.items }
+{
+    let start = kept(pool, table, [1, 5, 9], [0, 4, 8])?;
+    add_by(out, alloc, pool, table, memo, RuleName::Copy, start)?;
+    add_by(out, alloc, pool, table, memo, RuleName::Mix, start)?;
+    add_by(out, alloc, pool, table, memo, RuleName::MixBefore, start)?;
+    add_by(out, alloc, pool, table, memo, RuleName::Guess, start)?;
+    add_by(out, alloc, pool, table, memo, RuleName::Narrow, start)?;
+    add_by(out, alloc, pool, table, memo, RuleName::Nothing, start)?;
     Ok(())
 }
 
-/// Adds what three rules make one after the other, with a memo of one entry.
-fn add_chain(out: &mut String, alloc: Global) -> Result<(), Memory> {
-    let (table, seat) = NodeTable::new(alloc, 65536, AnyAim)?;
-    let mut pool = Pool::new(alloc, &table, seat)?;
-    let mut memo = Memo::new(alloc, 1)?;
-    let start = kept(&mut pool, &table, [1, 5, 9], [0, 4, 8])?;
-    let first = pool.stepped(&table, &mut memo, &guess(alloc)?, start)?;
-    let second = pool.stepped(&table, &mut memo, &copy(alloc)?, first)?;
-    let rule = mix(alloc)?;
-    add_step(
-        out,
-        &mut pool,
-        &table,
-        &mut memo,
-        "guess, copy and mix",
-        &rule,
-        second,
-    )?;
-    Ok(())
+/// Adds what three rules make one after the other.
+pub fn add_chain(
+    out: &mut String,
+    alloc: Global,
+    pool: &mut Pool,
+    table: &NodeTable<AnyAim>,
+    memo: &mut Memo,
+) -> Result<(), Memory>
+    requires { IsWorkerOf table.now pool.old.worker × All (λ n. Knows (seen pool.old.worker) n.number) pool.old.nodes.items }
+{
+    let start = kept(pool, table, [1, 5, 9], [0, 4, 8])?;
+    let first = stepped_by(alloc, pool, table, memo, RuleName::Guess, start)?;
+    let second = stepped_by(alloc, pool, table, memo, RuleName::Copy, first)?;
+    let third = stepped_by(alloc, pool, table, memo, RuleName::Mix, second)?;
+    add_relation(out, pool, table, "guess, copy and mix", third)
 }
 
-/// Adds whether steps are what compositions with the relations of their rules are, one of them where
-/// slot 1 is true and slot 2 was false at the entry.
-fn add_composed(out: &mut String, alloc: Global) -> Result<(), Memory> {
-    let (table, seat) = NodeTable::new(alloc, 65536, AnyAim)?;
-    let mut pool = Pool::new(alloc, &table, seat)?;
-    let mut memo = Memo::new(alloc, 1024)?;
-    let start = kept(&mut pool, &table, [1, 5, 9], [0, 4, 8])?;
-    let copied = kept(&mut pool, &table, [2, 6, 10], [1, 1, 9])?;
-    let composed = pool.step(&table, Step::After, start, copied)?;
-    let stepped = pool.stepped(&table, &mut memo, &copy(alloc)?, start)?;
-    let copies = pool.number(composed) == pool.number(stepped);
-    let present = pool.step(&table, Step::Literal(5, true), 0, 0)?;
-    let entry = pool.step(&table, Step::Literal(8, false), 0, 0)?;
-    let some = pool.step(&table, Step::And, present, entry)?;
-    let mixed = mixed(&mut pool, &table)?;
-    let composed = pool.step(&table, Step::After, some, mixed)?;
-    let rule = mix(alloc)?;
-    let stepped = add_step(out, &mut pool, &table, &mut memo, "mix some", &rule, some)?;
-    let mixes = pool.number(composed) == pool.number(stepped);
+/// Whether a step is what a composition with the relation of its rule is.
+fn copies(
+    alloc: Global,
+    pool: &mut Pool,
+    table: &NodeTable<AnyAim>,
+    memo: &mut Memo,
+) -> Result<bool, Memory>
+    requires { IsWorkerOf table.now pool.old.worker × All (λ n. Knows (seen pool.old.worker) n.number) pool.old.nodes.items }
+    ensures { OnOk result (IsWorkerOf table.now pool.new.worker × All (λ n. Knows (seen pool.new.worker) n.number) pool.new.nodes.items) }
+{
+    let start = kept(pool, table, [1, 5, 9], [0, 4, 8])?;
+    let copied = kept(pool, table, [2, 6, 10], [1, 1, 9])?;
+    let composed = pool.step(table, Step::After, start, copied)?;
+    let stepped = stepped_by(alloc, pool, table, memo, RuleName::Copy, start)?;
+    Ok(pool.number(composed) == pool.number(stepped))
+}
+
+/// Adds what a rule makes of the relation in which slot 1 is true and slot 2 was false at the entry, and answers
+/// whether it is what a composition with the relation of the rule is.
+fn add_some(
+    out: &mut String,
+    alloc: Global,
+    pool: &mut Pool,
+    table: &NodeTable<AnyAim>,
+    memo: &mut Memo,
+) -> Result<bool, Memory>
+    requires { IsWorkerOf table.now pool.old.worker × All (λ n. Knows (seen pool.old.worker) n.number) pool.old.nodes.items }
+{
+    let present = pool.step(table, Step::Literal(5, true), 0, 0)?;
+    let entry = pool.step(table, Step::Literal(8, false), 0, 0)?;
+    let some = pool.step(table, Step::And, present, entry)?;
+    let mixed = mixed(pool, table)?;
+    let composed = pool.step(table, Step::After, some, mixed)?;
+    let stepped = stepped_by(alloc, pool, table, memo, RuleName::Mix, some)?;
+    add_relation(out, pool, table, "mix some", stepped)?;
+    Ok(pool.number(composed) == pool.number(stepped))
+}
+
+/// Adds whether steps are what compositions with the relations of their rules are.
+pub fn add_composed(
+    out: &mut String,
+    alloc: Global,
+    pool: &mut Pool,
+    table: &NodeTable<AnyAim>,
+    memo: &mut Memo,
+) -> Result<(), Memory>
+    requires { IsWorkerOf table.now pool.old.worker × All (λ n. Knows (seen pool.old.worker) n.number) pool.old.nodes.items }
+{
+    let copies = copies(alloc, pool, table, memo)?;
+    let mixes = add_some(out, alloc, pool, table, memo)?;
     Ok(writeln!(out, "steps are compositions: copy {copies} mix {mixes}")?)
 }
 
 /// Adds what is left of the entry where a copied slot is true, and of the present where one is guessed.
-fn add_projected(out: &mut String, alloc: Global) -> Result<(), Memory> {
-    let (table, seat) = NodeTable::new(alloc, 65536, AnyAim)?;
-    let mut pool = Pool::new(alloc, &table, seat)?;
-    let mut memo = Memo::new(alloc, 1024)?;
-    let start = kept(&mut pool, &table, [1, 5, 9], [0, 4, 8])?;
-    let copied = pool.stepped(&table, &mut memo, &copy(alloc)?, start)?;
-    let present = pool.step(&table, Step::Literal(5, true), 0, 0)?;
-    let tainted = pool.step(&table, Step::And, copied, present)?;
-    let left = pool.step(&table, Step::Project(ENTRY), tainted, 0)?;
-    let source = pool.step(&table, Step::Literal(0, true), 0, 0)?;
+pub fn add_projected(
+    out: &mut String,
+    alloc: Global,
+    pool: &mut Pool,
+    table: &NodeTable<AnyAim>,
+    memo: &mut Memo,
+) -> Result<(), Memory>
+    requires { IsWorkerOf table.now pool.old.worker × All (λ n. Knows (seen pool.old.worker) n.number) pool.old.nodes.items }
+{
+    let start = kept(pool, table, [1, 5, 9], [0, 4, 8])?;
+    let copied = stepped_by(alloc, pool, table, memo, RuleName::Copy, start)?;
+    let present = pool.step(table, Step::Literal(5, true), 0, 0)?;
+    let tainted = pool.step(table, Step::And, copied, present)?;
+    let left = pool.step(table, Step::Project(ENTRY), tainted, 0)?;
+    let source = pool.step(table, Step::Literal(0, true), 0, 0)?;
     let from_source = pool.number(left) == pool.number(source);
-    let guessed = pool.stepped(&table, &mut memo, &guess(alloc)?, start)?;
-    let left = pool.step(&table, Step::Project(PRESENT), guessed, 0)?;
+    let guessed = stepped_by(alloc, pool, table, memo, RuleName::Guess, start)?;
+    let left = pool.step(table, Step::Project(PRESENT), guessed, 0)?;
     let anything = pool.number(left) == Some(1);
     Ok(writeln!(
         out,
@@ -241,10 +280,27 @@ fn add_projected(out: &mut String, alloc: Global) -> Result<(), Memory> {
     )?)
 }
 
-/// Adds what rules make of relations.
-pub fn add_steps(out: &mut String, alloc: Global) -> Result<(), Memory> {
-    add_rules(out, alloc)?;
-    add_chain(out, alloc)?;
-    add_composed(out, alloc)?;
-    add_projected(out, alloc)
+/// Adds what a call makes whose callee answers its argument, and where its answer may be true.
+pub fn add_call(
+    out: &mut String,
+    alloc: Global,
+    pool: &mut Pool,
+    table: &NodeTable<AnyAim>,
+    memo: &mut Memo,
+) -> Result<(), Memory>
+    requires { IsWorkerOf table.now pool.old.worker × All (λ n. Knows (seen pool.old.worker) n.number) pool.old.nodes.items }
+{
+    let start = kept(pool, table, [1, 5, 9], [0, 4, 8])?;
+    let answers = same(pool, table, 0, 1)?;
+    let rule = RuleName::Call.rule(alloc)?;
+    let made = pool.stepped_with(table, memo, &rule, start, answers)?;
+    add_relation(out, pool, table, RuleName::Call.text(), made)?;
+    let given = pool.step(table, Step::Literal(0, true), 0, 0)?;
+    let some = pool.holds(table, memo, made, given, 9)?;
+    let clean = pool.step(table, Step::Literal(4, false), 0, 0)?;
+    let none = pool.holds(table, memo, made, clean, 9)?;
+    Ok(writeln!(
+        out,
+        "an answer may be true {some}, of a false argument {none}"
+    )?)
 }

@@ -1,11 +1,11 @@
 //! Blocks of a method.
-ghost use Rattle.std.specs.Prelude.{◌≡◌, ◌+◌, ◌<◌, ◌≤◌, All, IfOk, OnOk, length};
+ghost use Rattle.std.specs.Prelude.{◌≡◌, ◌+◌, ◌<◌, ◌≤◌, [], All, IfOk, OnOk, length};
 ghost use Rattle.ja_ir.specs.Blocks.{StaysInside};
 
 use ja_base::{ClassId, Desc, Kind, Memory, Name, Seq};
 use ja_ir::{
-    CallKind, CallOp, Instr, Instrs, LibRow, Method, Op, RowEffect, RowFlow, RowResult, Successors,
-    blocks_of,
+    Block, CallKind, CallOp, Instr, Instrs, LibRow, Method, Op, RowEffect, RowFlow, RowResult,
+    Successors, blocks_of,
 };
 use std::alloc::Global;
 
@@ -81,14 +81,23 @@ fn add_hand_over(code: &mut Instrs, alloc: Global) -> Result<(), Memory>
     add(code, alloc, 13, Op::Return(Some(Kind::R)), &[])
 }
 
+/// Adds all instructions of the method.
+fn add_code(code: &mut Instrs, alloc: Global) -> Result<(), Memory>
+    requires { code.old ≡ [] }
+    ensures inside { OnOk result (All (λ instr. All (λ j. j < 8) instr.next) code.new) }
+    ensures size { OnOk result (length code.new ≡ 8) }
+{
+    add_return(code, alloc)?;
+    add_hand_over(code, alloc)
+}
+
 /// The code of the method.
 fn code(alloc: Global) -> Result<Instrs, Memory>
     ensures inside { IfOk result (λ code. All (λ instr. All (λ j. j < 8) instr.next) code) }
     ensures size { IfOk result (λ code. length code ≡ 8) }
 {
     let mut code: Instrs = Seq::new(alloc);
-    add_return(&mut code, alloc)?;
-    add_hand_over(&mut code, alloc)?;
+    add_code(&mut code, alloc)?;
     Ok(code)
 }
 
@@ -125,9 +134,14 @@ fn recursive(alloc: Global) -> Result<Method, Memory>
 pub fn add_blocks(out: &mut String, alloc: Global) -> Result<(), Memory> {
     let method = recursive(alloc)?;
     let blocks = blocks_of(alloc, &method)?;
+    add_places(out, method.code.as_slice(), blocks.as_slice())
+}
+
+/// Adds where blocks begin.
+fn add_places(out: &mut String, code: &[Instr], blocks: &[Block]) -> Result<(), Memory> {
     write!(out, "blocks {} at", blocks.len())?;
-    for block in blocks.as_slice() {
-        if let Some(instr) = method.code.as_slice().get(block.first as usize) {
+    for block in blocks {
+        if let Some(instr) = code.get(block.first as usize) {
             write!(out, " {}", instr.pc)?;
         }
     }

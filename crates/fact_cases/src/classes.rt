@@ -77,13 +77,16 @@ fn thrown_rows(alloc: Global) -> Result<Rows<Rows<u32>>, Memory> {
 }
 
 /// Adds what the class sets tell at first, and after a slot and what is thrown are named a set.
-pub fn add_code(out: &mut String, alloc: Global, program: &Program) -> Result<(), Memory>
-    requires { program.now ≡ sample }
-{
+pub fn add_code(out: &mut String, alloc: Global, program: &Program) -> Result<(), Memory> {
     let mut sets = ClassSets::new(alloc, program)?;
-    add_least(out, &sets)?;
-    share_two(alloc, &mut sets)?;
-    add_least(out, &sets)
+    add_shared(out, alloc, &mut sets)
+}
+
+/// Adds what class sets tell, before and after a slot and what is thrown are named a set.
+fn add_shared(out: &mut String, alloc: Global, sets: &mut ClassSets) -> Result<(), Memory> {
+    add_least(out, sets)?;
+    share_two(alloc, sets)?;
+    add_least(out, sets)
 }
 
 /// Adds what the class sets tell after writes of what a method takes, returns, and throws.

@@ -1,11 +1,16 @@
-//! Fills the tables of facts of a small program, and prints what they answer.
+//! Fills the tables of facts of a small program, and prints what they answer; then counts what the ends of each
+//! operation make.
 //!
 //! First come the sets and names of the stored input, which says how its lines are read. The tables are those of
-//! the program of `sample`.
+//! the program of `sample`. The last lines are those of `ends`.
+//!
+//! A function that holds a table gives its answers to another one to print: each place where a function can end
+//! early, while it has something to let go, makes its proof dearer.
 #![tactic(auto)]
 
 mod blocks;
 mod classes;
+mod ends;
 mod heap;
 mod sample;
 mod small;
@@ -14,6 +19,7 @@ mod tables;
 ghost use Rattle.std.specs.Prelude.{◌≡◌};
 ghost use Rattle.ja_ir.specs.Sample.{sample};
 
+use ends::lines;
 use ja_base::Memory;
 use ja_ir::Program;
 use sample::sample;
@@ -24,14 +30,26 @@ use std::io;
 /// What comes of the blocks, the heap and the tables, as lines.
 fn facts_text(alloc: Global) -> Result<String, Memory> {
     let mut out = String::new(alloc);
-    blocks::add_blocks(&mut out, alloc)?;
-    heap::add_heap(&mut out, alloc)?;
-    tables::add_rows(&mut out, alloc)?;
-    tables::add_variables(&mut out)?;
-    let program = sample(alloc)?;
-    add_sets(&mut out, alloc, &program)?;
-    add_heaps(&mut out, alloc, &program)?;
+    add_facts(&mut out, alloc)?;
     Ok(out)
+}
+
+/// Adds what comes of the blocks, the heap and the tables.
+fn add_facts(out: &mut String, alloc: Global) -> Result<(), Memory> {
+    blocks::add_blocks(out, alloc)?;
+    heap::add_heap(out, alloc)?;
+    tables::add_rows(out, alloc)?;
+    tables::add_variables(out)?;
+    let program = sample(alloc)?;
+    add_tables(out, alloc, &program)
+}
+
+/// Adds what the tables of the program say.
+fn add_tables(out: &mut String, alloc: Global, program: &Program) -> Result<(), Memory>
+    requires { program.now ≡ sample }
+{
+    add_sets(out, alloc, program)?;
+    add_heaps(out, alloc, program)
 }
 
 /// Adds what the class sets and the call graph say.
@@ -60,7 +78,11 @@ fn add_heaps(out: &mut String, alloc: Global, program: &Program) -> Result<(), M
 fn main(rt: HostRuntime) -> io::Result<()> {
     let alloc = rt.alloc();
     let text = io::read_to_string(alloc, rt.reader())?;
-    for told in [small_text(alloc, text.as_str()), facts_text(alloc)] {
+    for told in [
+        small_text(alloc, text.as_str()),
+        facts_text(alloc),
+        lines(alloc),
+    ] {
         print!(rt;
             "{}",
             told.as_ref()

@@ -2,7 +2,8 @@
 //!
 //! The program has one class, so five tokens, one field, and five methods: one of a constant, a call, a
 //! return and a throw, three of a return, and one without code.
-ghost use Rattle.std.specs.Prelude.{◌≡◌, ◌<◌, [], ◌∷◌, false, replicate, IfOk};
+ghost use Rattle.std.specs.Prelude.{◌≡◌, ◌<◌, [], ◌∷◌, false, replicate, length, IfOk};
+ghost use Rattle.ja_facts.specs.FactTables.{empty_effects, empty_graph};
 ghost use Rattle.ja_ir.specs.Sample.{sample};
 
 use crate::sample::{CONSTRUCTOR, MAIN, MEMBER, WITHOUT_CODE};
@@ -15,18 +16,40 @@ use std::alloc::Global;
 /// No method of the program.
 const NOWHERE: MethodId = MethodId(5);
 
-/// Adds what rows of numbers hold after writes.
+/// A row of three numbers.
+fn row_of_three(alloc: Global) -> Result<Rows<u32>, Memory>
+    ensures { IfOk result (λ row. row ≡ 5 ∷ 6 ∷ 7 ∷ []) }
+{
+    let mut row = Rows::new(alloc);
+    row.push(5)?;
+    row.push(6)?;
+    row.push(7)?;
+    Ok(row)
+}
+
+/// Adds what a row of numbers holds, before and after writes.
 pub fn add_rows(out: &mut String, alloc: Global) -> Result<(), Memory> {
-    let mut rows = Rows::new(alloc);
-    write!(out, "rows {}", rows.len())?;
-    rows.push(5u32)?;
-    rows.push(6)?;
-    rows.push(7)?;
-    let len = rows.len();
-    *rows.at_mut(1) = 9;
-    write!(out, " {len}: {} {} {}", rows.at(0), rows.at(1), rows.at(2))?;
+    let none: Rows<u32> = Rows::new(alloc);
+    write!(out, "rows {}", none.len())?;
+    let mut row = row_of_three(alloc)?;
+    *row.at_mut(1) = 9;
+    add_row(out, &row)
+}
+
+/// Adds what a row of three numbers holds.
+fn add_row(out: &mut String, row: &Rows<u32>) -> Result<(), Memory>
+    requires { length row.now ≡ 3 }
+{
+    write!(
+        out,
+        " {}: {} {} {}",
+        row.len(),
+        row.at(0),
+        row.at(1),
+        row.at(2)
+    )?;
     for place in [0, 1, 2, 3, u64::MAX] {
-        write!(out, ", {}", rows.at_or(place, &4))?;
+        write!(out, ", {}", row.at_or(place, &4))?;
     }
     Ok(writeln!(out)?)
 }
@@ -37,9 +60,12 @@ pub fn add_variables(out: &mut String) -> Result<(), Memory> {
     Ok(writeln!(out, "variables {numbers:?}")?)
 }
 
-/// What the graph says of an instruction: whether it is reached, the number of its targets, whether the
+/// What a graph says of an instruction: whether it is reached, the number of its targets, whether the
 /// library is one, and the least taker.
-fn said(graph: &CallGraph, m: MethodId, i: u32) -> (bool, u64, bool, Option<u32>) {
+type Said = (bool, u64, bool, Option<u32>);
+
+/// What the graph says of an instruction.
+fn said(graph: &CallGraph, m: MethodId, i: u32) -> Said {
     let targets = graph.targets(m, i);
     let taker = graph.takers(m, i).next_from(0);
     (
@@ -50,15 +76,29 @@ fn said(graph: &CallGraph, m: MethodId, i: u32) -> (bool, u64, bool, Option<u32>
     )
 }
 
+/// Says that two instructions may run, the first of them twice, and answers whether each was new.
+fn reach_two(graph: &mut CallGraph) -> [bool; 3]
+    requires { graph.old ≡ empty_graph sample }
+{
+    [graph.add(MAIN, 1), graph.add(MAIN, 1), graph.add(MEMBER, 0)]
+}
+
+/// What the call graph says of an instruction at first, and what it answers to instructions that may run.
+fn reached(alloc: Global, program: &Program) -> Result<(Said, [bool; 3]), Memory>
+    requires { program.now ≡ sample }
+{
+    let mut graph = CallGraph::new(alloc, program)?;
+    let before = said(&graph, MAIN, 1);
+    let added = reach_two(&mut graph);
+    Ok((before, added))
+}
+
 /// Adds what the call graph says at first, and what it answers to instructions that may run.
 pub fn add_reached(out: &mut String, alloc: Global, program: &Program) -> Result<(), Memory>
     requires { program.now ≡ sample }
 {
-    let mut graph = CallGraph::new(alloc, program)?;
-    writeln!(out, "graph {:?}", said(&graph, MAIN, 1))?;
-    let first = graph.add(MAIN, 1);
-    let again = graph.add(MAIN, 1);
-    let other = graph.add(MEMBER, 0);
+    let (before, [first, again, other]) = reached(alloc, program)?;
+    writeln!(out, "graph {before:?}")?;
     Ok(writeln!(out, "graph added {first} {again} {other}")?)
 }
 
@@ -67,10 +107,16 @@ pub fn add_calls(out: &mut String, alloc: Global, program: &Program) -> Result<(
     requires { program.now ≡ sample }
 {
     let mut graph = CallGraph::new(alloc, program)?;
-    graph.add(MAIN, 1);
-    graph.add(MEMBER, 0);
-    share_calls(alloc, &mut graph)?;
-    add_said(out, &graph)
+    add_called(out, alloc, &mut graph)
+}
+
+/// Adds what an empty graph says of some instructions, after writes.
+fn add_called(out: &mut String, alloc: Global, graph: &mut CallGraph) -> Result<(), Memory>
+    requires { graph.old ≡ empty_graph sample }
+{
+    let _added = reach_two(graph);
+    share_calls(alloc, graph)?;
+    add_said(out, graph)
 }
 
 /// Names a target and a taker for instruction 1 of the main method.
@@ -166,15 +212,24 @@ fn add_said(out: &mut String, graph: &CallGraph) -> Result<(), Memory> {
     Ok(())
 }
 
+/// Adds two effects, one of them twice: whether there was the first before, and whether each was new.
+fn add_two_effects(effects: &mut Effects) -> [bool; 4]
+    requires { effects.old ≡ empty_effects sample }
+{
+    [
+        effects.has(MEMBER, 1),
+        effects.add(MEMBER, 1),
+        effects.add(MEMBER, 1),
+        effects.add(MAIN, 0),
+    ]
+}
+
 /// Adds which effects there are after writes.
 pub fn add_effects(out: &mut String, alloc: Global, program: &Program) -> Result<(), Memory>
     requires { program.now ≡ sample }
 {
     let mut effects = Effects::new(alloc, program)?;
-    let before = effects.has(MEMBER, 1);
-    let first = effects.add(MEMBER, 1);
-    let again = effects.add(MEMBER, 1);
-    let other = effects.add(MAIN, 0);
+    let [before, first, again, other] = add_two_effects(&mut effects);
     writeln!(out, "effects {before}, added {first} {again} {other}")?;
     add_had(out, &effects)
 }
@@ -196,14 +251,28 @@ fn add_had(out: &mut String, effects: &Effects) -> Result<(), Memory> {
     Ok(())
 }
 
+/// Whether there is a heap pair at first, before an instruction of the program.
+fn has_pair(alloc: Global, program: &Program) -> Result<bool, Memory>
+    requires { program.now ≡ sample }
+{
+    let pairs = Pairs::new(alloc, program)?;
+    Ok(pairs.at(MEMBER, 0).contains((5, 5)))
+}
+
+/// Whether there is a reachable pair at first, before an instruction of the program.
+fn has_reached(alloc: Global, program: &Program) -> Result<bool, Memory>
+    requires { program.now ≡ sample }
+{
+    let reach = Reach::new(alloc, program)?;
+    Ok(reach.at(MAIN, 1).contains((3, 2)))
+}
+
 /// Adds which heap pairs there are at first, before an instruction of the program.
 pub fn add_first_pairs(out: &mut String, alloc: Global, program: &Program) -> Result<(), Memory>
     requires { program.now ≡ sample }
 {
-    let pairs = Pairs::new(alloc, program)?;
-    let held = pairs.at(MEMBER, 0).contains((5, 5));
-    let reach = Reach::new(alloc, program)?;
-    let reached = reach.at(MAIN, 1).contains((3, 2));
+    let held = has_pair(alloc, program)?;
+    let reached = has_reached(alloc, program)?;
     Ok(writeln!(out, "pairs at first {held}, reach {reached}")?)
 }
 
@@ -226,14 +295,20 @@ fn pairs_named(alloc: Global, set: PairSet) -> Result<Pairs, Memory>
     Ok(Pairs::shared(names, pool, none))
 }
 
-/// Adds which heap pairs there are before two instructions, of which the second is named a pair.
-pub fn add_pairs(out: &mut String, alloc: Global) -> Result<(), Memory> {
+/// Whether a pair is new, and which heap pairs there are before two instructions, of which the second is named it.
+fn pairs_of_two(alloc: Global) -> Result<[bool; 4], Memory> {
     let mut set = PairSet::new(alloc, 6)?;
     let added = set.add((4, 0));
     let pairs = pairs_named(alloc, set)?;
     let held = pairs.at(MAIN, 1).contains((4, 0));
     let turned = pairs.at(MAIN, 1).contains((0, 4));
     let before = pairs.at(MAIN, 0).contains((4, 0));
+    Ok([added, held, turned, before])
+}
+
+/// Adds which heap pairs there are before two instructions, of which the second is named a pair.
+pub fn add_pairs(out: &mut String, alloc: Global) -> Result<(), Memory> {
+    let [added, held, turned, before] = pairs_of_two(alloc)?;
     Ok(writeln!(out, "pairs added {added}: {held} {turned} {before}")?)
 }
 
@@ -247,19 +322,26 @@ fn reach_named(alloc: Global, set: PairSet) -> Result<Reach, Memory>
     Ok(Reach::shared(names, pool, none))
 }
 
-/// Adds which reachable pairs there are before two instructions, of which the first is named a pair.
-pub fn add_reach(out: &mut String, alloc: Global) -> Result<(), Memory> {
+/// Whether a pair is new, and which reachable pairs there are before two instructions, of which the first is named it.
+fn reach_of_two(alloc: Global) -> Result<[bool; 4], Memory> {
     let mut set = PairSet::new(alloc, 6)?;
     let added = set.add((3, 2));
     let reach = reach_named(alloc, set)?;
     let held = reach.at(MAIN, 0).contains((3, 2));
     let turned = reach.at(MAIN, 0).contains((2, 3));
     let after = reach.at(MAIN, 1).contains((3, 2));
+    Ok([added, held, turned, after])
+}
+
+/// Adds which reachable pairs there are before two instructions, of which the first is named a pair.
+pub fn add_reach(out: &mut String, alloc: Global) -> Result<(), Memory> {
+    let [added, held, turned, after] = reach_of_two(alloc)?;
     Ok(writeln!(out, "reach added {added}: {held} {turned} {after}")?)
 }
 
-/// Adds what the objects of a token hold at first, and after a write.
-pub fn add_held(out: &mut String, alloc: Global, program: &Program) -> Result<(), Memory>
+/// The least cell that the objects of two tokens hold: of the first at first and after a write, of the other
+/// between.
+fn held(alloc: Global, program: &Program) -> Result<[Option<u32>; 3], Memory>
     requires { program.now ≡ sample }
 {
     let mut holds = Holds::new(alloc, program)?;
@@ -267,16 +349,32 @@ pub fn add_held(out: &mut String, alloc: Global, program: &Program) -> Result<()
     holds.of_token_mut(Token(4)).add(5);
     let other = holds.of_token(Token(3)).next_from(0);
     let after = holds.of_token(Token(4)).next_from(0);
+    Ok([before, other, after])
+}
+
+/// Adds what the objects of a token hold at first, and after a write.
+pub fn add_held(out: &mut String, alloc: Global, program: &Program) -> Result<(), Memory>
+    requires { program.now ≡ sample }
+{
+    let [before, other, after] = held(alloc, program)?;
     Ok(writeln!(out, "token holds {before:?} {other:?} {after:?}")?)
 }
 
-/// Adds what a field holds at first, and after a write.
-pub fn add_field_held(out: &mut String, alloc: Global, program: &Program) -> Result<(), Memory>
+/// The least cell that a field holds, at first and after a write.
+fn field_held(alloc: Global, program: &Program) -> Result<[Option<u32>; 2], Memory>
     requires { program.now ≡ sample }
 {
     let mut holds = Holds::new(alloc, program)?;
     let before = holds.of_field(FieldId(0)).next_from(0);
     holds.of_field_mut(FieldId(0)).add(0);
     let after = holds.of_field(FieldId(0)).next_from(0);
+    Ok([before, after])
+}
+
+/// Adds what a field holds at first, and after a write.
+pub fn add_field_held(out: &mut String, alloc: Global, program: &Program) -> Result<(), Memory>
+    requires { program.now ≡ sample }
+{
+    let [before, after] = field_held(alloc, program)?;
     Ok(writeln!(out, "field holds {before:?} {after:?}")?)
 }

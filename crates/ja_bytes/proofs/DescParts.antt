@@ -7,7 +7,8 @@ use Rattle.ja_base.specs.Kind.{words_of}
 use Rattle.ja_base.specs.Descriptor.{IsField, AreFields, IsResult, words_of_all, IsMethod}
 use Rattle.ja_bytes.specs.declared.descriptor.DescFault.{DescFault}
 use Rattle.ja_bytes.specs.declared.descriptor.DescFault.TheVariants.{Bad, Memory}
-use Rattle.ja_bytes.specs.Desc.{IsBadAt, behind_of}
+use Rattle.ja_bytes.specs.Desc.{IsBadAt}
+use Rattle.ja_bytes.specs.InnerDesc.{behind_of}
 use Rattle.ja_bytes.specs.Longest.{IsLongestBegin, IsWrongAt, IsStuck}
 use Rattle.ja_bytes.specs.DescriptorText.{IsFieldText, IsFieldDesc, IsResultText, IsMethodText, SpellsParams, IsParamsText}
 use Rattle.ja_bytes.proofs.FieldText.{field_unique}

@@ -1,5 +1,5 @@
 -- What the readers of descriptors answer.
-use Rattle.std.specs.Prelude.{ℕ, ◌+◌}
+use Rattle.std.specs.Prelude.{ℕ}
 use Rattle.ja_bytes.specs.declared.descriptor.DescFault.{DescFault}
 use Rattle.ja_bytes.specs.declared.descriptor.DescFault.TheVariants.{Bad, Memory}
 
@@ -7,8 +7,3 @@ use Rattle.ja_bytes.specs.declared.descriptor.DescFault.TheVariants.{Bad, Memory
 abbrev pub IsBadAt : (ℕ → Type 0) → DescFault → Type 0
 IsBadAt P (Bad at) = P at
 IsBadAt P Memory = Unit {0}
-
--- the fault, seen from this many bytes before
-abbrev pub behind_of : ℕ → DescFault → DescFault
-behind_of n (Bad at) = Bad (n + at)
-behind_of n Memory = Memory

@@ -3,3 +3,4 @@ pub mod Text
 pub mod Longest
 pub mod DescriptorText
 pub mod Desc
+pub mod InnerDesc

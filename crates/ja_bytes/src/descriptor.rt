@@ -1,7 +1,8 @@
 ghost use Rattle.std.specs.Prelude.{◌≡◌, ℕ, List, ◌+◌, ◌-◌, ◌<◌, ◌^◌, ◌≤◌, ◌∷◌, length, take, Ok, None, ◌↔◌, IsTrue, IfOk, IfErr, IfSome};
 ghost use Rattle.ja_base.specs.Kind.{words_of};
 ghost use Rattle.ja_base.specs.Descriptor.{IsField, IsResult, IsMethod, words_of_all};
-ghost use Rattle.ja_bytes.specs.Desc.{IsBadAt, behind_of};
+ghost use Rattle.ja_bytes.specs.Desc.{IsBadAt};
+ghost use Rattle.ja_bytes.specs.InnerDesc.{behind_of};
 ghost use Rattle.ja_bytes.specs.Longest.{IsWrongAt, IsStuck};
 ghost use Rattle.ja_bytes.specs.DescriptorText.{IsFieldText, IsFieldDesc, IsResultText, IsMethodText, IsParamsText, SpellsParams, name_of};
 

@@ -3,9 +3,8 @@ ghost use Rattle.ja_cells.specs.Rows as rows;
 ghost use Rattle.ja_ir.specs.Operations.{result_count};
 ghost use Rattle.ja_network.specs.declared.cell.Cell.TheVariants.{Nothing};
 
-use crate::call::pushes;
 use ja_base::{JavaType, Kind, Memory, Seq};
-use ja_ir::{Op, Program, is_abstract, is_interface};
+use ja_ir::{Op, Program, is_abstract, is_interface, pushes};
 use ja_network::Cell;
 use ja_tokens::{rarr_token, text_token};
 

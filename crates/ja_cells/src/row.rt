@@ -1,10 +1,9 @@
 ghost use Rattle.std.specs.Prelude.{◌≡◌, ◌<◌, ◌^◌, ◌+◌, length, slice_set, IfOk};
 ghost use Rattle.ja_cells.specs.Rows as rows;
 
-use crate::call::pops;
 use crate::made::add_pushed;
 use ja_base::{Memory, Seq};
-use ja_ir::{Op, Program};
+use ja_ir::{Op, Program, pops};
 use ja_network::Cell;
 use std::alloc::Global;
 

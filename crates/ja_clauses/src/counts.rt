@@ -1,24 +1,14 @@
 ghost use Rattle.std.specs.Prelude.{◌≡◌, ◌^◌, ◌<◌};
 ghost use Rattle.ja_ir.specs.Operations as operations;
 
-use ja_ir::{CallKind, CallOp, Op};
-
-/// Whether a call of this kind has a receiver.
-pub fn has_receiver(kind: CallKind) -> bool
-    ensures { result ≡ operations.has_receiver kind }
-{
-    match kind {
-        CallKind::Static | CallKind::StaticField => false,
-        CallKind::Virtual | CallKind::Special | CallKind::Interface | CallKind::MemberField => true,
-    }
-}
+use ja_ir::{CallOp, Op};
 
 /// The number of arguments of a call, a receiver among them.
 pub fn argument_count(call: &CallOp) -> u32
     requires { operations.arguments call.now < 2 ^ 32 }
     ensures { result ≡ operations.arguments call.now }
 {
-    ja_order::arguments(call) as u32
+    ja_ir::arguments(call) as u32
 }
 
 /// Whether an operation may throw a new library object by choice.

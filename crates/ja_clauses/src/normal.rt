@@ -11,8 +11,7 @@ use crate::rows::{answer, dirt_by};
 use crate::slot::Slot;
 use crate::stays::{changed, under};
 use ja_base::Numbers;
-use ja_ir::Op;
-use ja_order::{pops, pushes};
+use ja_ir::{Op, pops, pushes};
 use ja_work::{Clause, Spot};
 
 /// A local after the operation.

@@ -8,11 +8,11 @@ ghost use Rattle.ja_clauses.specs.Slots.{as_slot};
 ghost use Rattle.ja_clauses.specs.Tables.{tests_by};
 
 use crate::before::Before;
-use crate::counts::{argument_count, has_receiver};
+use crate::counts::argument_count;
 use crate::plain::moved;
 use crate::rows::taking;
 use crate::slot::{Slot, spot_of};
-use ja_ir::{CallOp, Op, RowEffect};
+use ja_ir::{CallOp, Op, RowEffect, has_receiver};
 use ja_work::Clause;
 
 /// Whether a slot shares with one of so many arguments, which lie over so many values.

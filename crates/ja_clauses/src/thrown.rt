@@ -5,13 +5,13 @@ ghost use Rattle.ja_clauses.specs.Inner.{early};
 ghost use Rattle.ja_clauses.specs.Tables.{tests_by};
 
 use crate::before::Before;
-use crate::counts::{has_receiver, may_throw};
+use crate::counts::may_throw;
 use crate::normal::dirt_after;
 use crate::plain::{moved, never};
 use crate::rows::by_flow;
 use crate::slot::Slot;
 use crate::stays::{changed, under};
-use ja_ir::Op;
+use ja_ir::{Op, has_receiver};
 use ja_work::{Clause, Spot, Way};
 
 /// Whether a call may end before it goes anywhere: by a null receiver, or at a method without code.

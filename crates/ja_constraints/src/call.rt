@@ -8,8 +8,9 @@ use crate::constraint::{
 };
 use crate::place::argument_cell;
 use ja_base::Memory;
-use ja_cells::{arguments, has_receiver, is_dispatched};
-use ja_ir::{CallKind, CallOp, MethodAt, Op, Program, is_static};
+use ja_ir::{
+    CallKind, CallOp, MethodAt, Op, Program, arguments, has_receiver, is_dispatched, is_static,
+};
 use ja_network::{Action, Cell, Event};
 
 // Whether a method, if there is one of this number, can be called by a call of this kind.

@@ -4,8 +4,8 @@ ghost use Rattle.ja_constraints.specs.Places as places;
 ghost use Rattle.ja_ir.specs.Whole.{IsWhole};
 ghost use Rattle.ja_cells.specs.Names.{row_at};
 
-use ja_cells::{Names, arguments, cell_in};
-use ja_ir::{CallOp, Instr, Method, Program};
+use ja_cells::{Names, cell_in};
+use ja_ir::{CallOp, Instr, Method, Program, arguments};
 use ja_network::Cell;
 
 /// The method of a number, if there is one.

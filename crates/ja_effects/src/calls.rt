@@ -15,8 +15,8 @@ ghost use Rattle.ja_effects.specs.Stages.{Step};
 use crate::enter::enter;
 use ja_base::MethodId;
 use ja_facts::{CallGraph, Effects, Pairs};
-use ja_ir::{CallOp, Instr, Method, Op, Program};
-use ja_names::{Frame, arguments};
+use ja_ir::{CallOp, Instr, Method, Op, Program, arguments};
+use ja_names::Frame;
 
 // Adds the effects of an instruction by the class initialisers that it may run.
 fn enter_initializers(

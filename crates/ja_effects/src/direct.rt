@@ -10,8 +10,8 @@ use crate::library::touch_sources;
 use crate::marks::{mark, touch};
 use ja_base::MethodId;
 use ja_facts::{CallGraph, Effects, Pairs};
-use ja_ir::{CallOp, Instr, Method, Op, Program};
-use ja_names::{Frame, arguments, frame_of};
+use ja_ir::{CallOp, Instr, Method, Op, Program, arguments};
+use ja_names::{Frame, frame_of};
 
 // Adds the effects that a reached call has by the library.
 fn touch_call(

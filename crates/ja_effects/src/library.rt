@@ -7,8 +7,8 @@ ghost use Rattle.ja_effects.specs.Inner.{Gains, IsSourced, ReachesSource};
 
 use crate::marks::touch;
 use ja_facts::{Effects, Pairs};
-use ja_ir::{CallOp, Method, Program, RowEffect};
-use ja_names::{Frame, arguments, has_receiver};
+use ja_ir::{CallOp, Method, Program, RowEffect, arguments, has_receiver};
+use ja_names::Frame;
 
 // Adds what the first so many arguments of a library call reach.
 fn touch_arguments(

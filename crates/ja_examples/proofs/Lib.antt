@@ -18,4 +18,5 @@ pub mod Quiet
 pub mod Initialized
 pub mod Rested
 pub mod Failed
+pub mod Aliased
 pub mod Labelled

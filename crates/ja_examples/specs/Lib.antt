@@ -9,5 +9,6 @@ pub mod Entering
 pub mod Choosing
 pub mod Elements
 pub mod Initializing
+pub mod Aliasing
 pub mod Labelling
 pub mod Runs

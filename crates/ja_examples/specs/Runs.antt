@@ -13,6 +13,7 @@ use Rattle.ja_examples.specs.Unlinking.{unlinking}
 use Rattle.ja_examples.specs.Choosing.{choosing}
 use Rattle.ja_examples.specs.Elements.{elements}
 use Rattle.ja_examples.specs.Initializing.{initializing, resting, failing}
+use Rattle.ja_examples.specs.Aliasing.{aliasing}
 use Rattle.ja_examples.specs.Labelling.{labelling}
 
 -- the run is over, since a class initialiser threw
@@ -39,6 +40,9 @@ pub record ProgramsRun : Type 0 where
   pub class_not_named : events_of (program_run resting (CallEntry 0 [] 20 (1 ∷ []) ∷ [])) ≡ clean_event
   pub failed_initializer : has_failed (program_run failing (CallEntry 0 [] 20 (1 ∷ []) ∷ [])) ≡ true
   pub nothing_after_it : events_of (program_run failing (CallEntry 0 [] 20 (1 ∷ []) ∷ CallEntry 0 [] 20 [] ∷ [])) ≡ []
+  -- K's initialiser taints the object that main has, too; where it does not run, nothing is in the field
+  pub aliased_object : events_of (program_run aliasing (CallEntry 0 [] 40 (0 ∷ 1 ∷ []) ∷ [])) ≡ tainted_event
+  pub object_alone : events_of (program_run aliasing (CallEntry 0 [] 40 [] ∷ [])) ≡ clean_event
   -- the text is tainted at the sink for pages alone
   pub labelled_text : events_of (program_run labelling (CallEntry 0 [] 20 [] ∷ [])) ≡ record { site = 0; positions = [] } ∷ record { site = 1; positions = 0 ∷ [] } ∷ []
   pub array_element : events_of (program_run elements (CallEntry 0 [] 20 (0 ∷ 0 ∷ 0 ∷ 0 ∷ 1 ∷ []) ∷ [])) ≡ tainted_event

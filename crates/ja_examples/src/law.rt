@@ -19,6 +19,7 @@ ghost use Rattle.ja_examples.specs.Entering.{entering, entered_site};
 ghost use Rattle.ja_examples.specs.Choosing.{choosing};
 ghost use Rattle.ja_examples.specs.Elements.{elements, element_site};
 ghost use Rattle.ja_examples.specs.Initializing.{initializing, resting, failing};
+ghost use Rattle.ja_examples.specs.Aliasing.{aliasing};
 ghost use Rattle.ja_examples.specs.Labelling.{labelling, labelling_report};
 ghost use Rattle.ja_examples.specs.Runs.{ProgramsRun};
 
@@ -133,6 +134,17 @@ pub fn law_failing()
     ensures threw { Taints failing 0 (Threw 1 nothing clean_return) }
     ensures returned { (a : Assignment) (s : Summary) → Taints failing 0 (Normal 1 a s) → ⊥ }
     ensures verdicts { AreVerdicts failing (Taints failing) (false ∷ []) }
+{}
+
+/// A class initialiser taints an object that a static field refers to and that main has in a local, too:
+/// it has an effect on the static fields, the local is affected, and after the initialiser returned main
+/// stands before the same instruction again with the local true. The sink call is warned.
+pub fn law_aliasing()
+    ensures effect { Heaps aliasing (Effect 1 StaticFields) }
+    ensures affected { IsAffected (analyses_of aliasing) 0 4 1 0 0 (Local 0) }
+    ensures returned { Taints aliasing 0 (Normal 1 nothing stored_taint) }
+    ensures again { Taints aliasing 0 (At 0 4 nothing (dirty (Local 0 ∷ []))) }
+    ensures verdicts { AreVerdicts aliasing (Taints aliasing) (true ∷ []) }
 {}
 
 /// A text that is marked for pages alone is clean at a sink for SQL and warned at one for pages, and the

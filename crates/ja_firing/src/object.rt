@@ -7,12 +7,12 @@ ghost use Rattle.ja_firing.specs.Tokens as tokens;
 ghost use Rattle.ja_constraints.specs.Places.{HasFew};
 
 use ja_base::Memory;
-use ja_cells::{Names, arguments, cell_in};
+use ja_cells::{Names, cell_in};
 use ja_constraints::{
     Constraint, Constraints, add_copy, add_link, add_reach, add_token, argument_cell, instr_of,
     method_of, row_at,
 };
-use ja_ir::{CallOp, Field, Op, Program, is_static};
+use ja_ir::{CallOp, Field, Op, Program, arguments, is_static};
 use ja_network::{Action, Cell, Event};
 use ja_tokens::{ThrownTo, absorbs, at_or_below, lib_token, parr_token, rarr_token, thrown_to};
 use std::alloc::Global;

@@ -12,7 +12,8 @@ use Rattle.ja_ir.specs.declared.head.ClassHead.{ClassHead}
 use Rattle.ja_hier.specs.LookUps.{methods_of}
 use Rattle.ja_heads.specs.declared.signature.Signature.{Signature}
 use Rattle.ja_heads.specs.Fields.{field_of, fields_from}
-use Rattle.ja_heads.specs.Signatures.{numbers_of, own_first, signature_of, signatures_beside, signatures_in, signatures_of}
+use Rattle.ja_heads.specs.Signatures.{numbers_of, own_first, signature_of, signatures_in, signatures_of}
+use Rattle.ja_heads.specs.InnerSignatures.{signatures_beside}
 
 -- ---- fields
 

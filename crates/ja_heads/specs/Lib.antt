@@ -4,3 +4,4 @@ pub mod Entries
 pub mod Initializers
 pub mod Classes
 pub mod InnerSupers
+pub mod InnerSignatures

@@ -1,5 +1,5 @@
 -- The names and descriptors of the methods of classes.
-use Rattle.std.specs.Prelude.{ℕ, ◌&&◌, ◌==◌, Bool, not, bytes_eq, List, [], ◌∷◌, ◌++◌, filter, map, slice_get, if◌then◌else◌}
+use Rattle.std.specs.Prelude.{ℕ, ◌&&◌, ◌==◌, Bool, not, bytes_eq, List, [], ◌∷◌, ◌++◌, filter, map, slice_get}
 use Rattle.ja_base.specs.declared.id.ClassId.{ClassId}
 use Rattle.ja_ir.specs.declared.head.ClassHead.{ClassHead}
 use Rattle.ja_ir.specs.declared.head.HeadMethod.{HeadMethod}
@@ -40,7 +40,3 @@ signatures_in heads c = map signature_of (methods_of (slice_get heads c))
 abbrev pub signatures_of : List ClassHead → (classes : List ℕ) → List Signature
 signatures_of heads [] = []
 signatures_of heads (c ∷ classes) = signatures_in heads c ++ signatures_of heads classes
-
--- the signatures of class d, unless it is class c
-abbrev pub signatures_beside : List ClassHead → (c d : ℕ) → List Signature
-signatures_beside heads c d = if d == c then [] else signatures_in heads d

@@ -1,6 +1,7 @@
 ghost use Rattle.std.specs.Prelude.{◌≡◌, ◌<◌, ◌++◌, ◌∷◌, [], List, All, OnOk, IfOk, length, map};
 ghost use Rattle.ja_heads.specs.declared.signature.Signature as declared;
-ghost use Rattle.ja_heads.specs.Signatures.{first_seen, numbers_of, own_first, signature_of, signatures_beside, signatures_of};
+ghost use Rattle.ja_heads.specs.Signatures.{first_seen, numbers_of, own_first, signature_of, signatures_of};
+ghost use Rattle.ja_heads.specs.InnerSignatures.{signatures_beside};
 
 use indexmap::IndexSet;
 use ja_base::{ClassId, Memory, Name};

@@ -5,7 +5,8 @@ use Rattle.std.proofs.lemmas.List.{get_or_default}
 use Rattle.std.proofs.lemmas.List.Elements.{Contains-get_or}
 use Rattle.ja_ir.specs.declared.head.ClassHead.{ClassHead}
 use Rattle.ja_hier.specs.InnerIndex.{LeadsOn}
-use Rattle.ja_hier.specs.LookUps.{field_in, IsDeclaredAbove, FieldSearch, nowhere, here, further}
+use Rattle.ja_hier.specs.LookUps.{field_in, FieldSearch, nowhere, here, further}
+use Rattle.ja_hier.specs.InnerIndex.{IsDeclaredAbove}
 use Rattle.ja_supertypes.specs.Supertypes.{supertypes_of, IsDirect, IsAtOrAbove}
 use Rattle.ja_supertypes.proofs.Falls.{first-step, step-above, direct-target}
 

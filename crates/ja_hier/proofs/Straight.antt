@@ -8,7 +8,8 @@ use Rattle.ja_base.specs.Index.{numbers_at}
 use Rattle.ja_base.specs.declared.index.NumbersByName.{NumbersByName}
 use Rattle.ja_hier.specs.declared.starts.Member.TheVariants.{Field}
 use Rattle.ja_hier.specs.InnerIndex.{AreForks, Covers, IsBelow, IsIndexOf, IsNowhereOn, IsStraight, stays, upwards, Meets}
-use Rattle.ja_hier.specs.LookUps.{field_in, field_number, IsDeclaredAbove, FieldSearch, here, further}
+use Rattle.ja_hier.specs.LookUps.{field_in, field_number, FieldSearch, here, further}
+use Rattle.ja_hier.specs.InnerIndex.{IsDeclaredAbove}
 use Rattle.ja_supertypes.specs.Faults.{IsCyclic, IsNowhere}
 use Rattle.ja_supertypes.specs.Supertypes.{supertypes_of, IsAtOrAbove, IsDirect, IsSupertype, direct, through}
 use Rattle.ja_supertypes.proofs.Falls.{first-step, step-above, supertype-target}

@@ -14,7 +14,7 @@ use Rattle.ja_hier.specs.declared.starts.Member.{Member}
 use Rattle.ja_hier.specs.declared.starts.Member.TheVariants.{Field, Method}
 use Rattle.ja_hier.specs.Faults.{Hides, is_package_private}
 use Rattle.ja_hier.specs.Members.{count_of, IsNumbered}
-use Rattle.ja_hier.specs.LookUps.{field_in, method_in, method_number, IsCandidate, IsDeclaredAbove, IsLeft, FieldSearch, skips}
+use Rattle.ja_hier.specs.LookUps.{field_in, method_in, method_number, IsCandidate, IsLeft, FieldSearch, skips}
 
 -- for each class the number of the members that the classes before it declare
 pub record AreStarts (heads : List ClassHead) (members : ClassHead → ℕ) (starts : List ℕ) : Type 0 where
@@ -142,6 +142,10 @@ pub record HidesAt (heads : List ClassHead) (c : ℕ) (head : ClassHead) (method
   pub above : ClassHead
   pub found : slice_get heads d ≡ Some above
   pub hides : Hides head above method
+
+-- some class at or above class c declares the field
+abbrev pub IsDeclaredAbove : List ClassHead → (name desc : List ℕ) → (c : ℕ) → Type 0
+IsDeclaredAbove heads name desc c = (e : ℕ) × (k : ℕ) × IsAtOrAbove heads c e × (field_in heads name desc e ≡ Some k)
 
 -- the search for a field that goes on from class c finds at class d what it finds at c
 pub record LeadsOn (heads : List ClassHead) (name desc : List ℕ) (c d : ℕ) : Type 0 where

@@ -13,7 +13,7 @@ use Rattle.ja_hier.specs.declared.skip.Skip.TheVariants.{NoMethod, NotVirtual, N
 use Rattle.ja_hier.specs.declared.starts.Member.TheVariants.{Field, Method}
 use Rattle.ja_hier.specs.Members.{count_of}
 use Rattle.ja_hier.specs.Faults.{is_virtual}
-use Rattle.ja_supertypes.specs.Supertypes.{supertypes_of, superclass_of, IsAtOrAbove, IsSuperinterface, HasLibrarySupertype}
+use Rattle.ja_supertypes.specs.Supertypes.{supertypes_of, superclass_of, IsSuperinterface, HasLibrarySupertype}
 
 -- the fields that a class declares
 abbrev pub fields_of : Option ClassHead → List HeadField
@@ -45,10 +45,6 @@ pub data FieldSearch (heads : List ClassHead) (name desc : List ℕ) : (classes 
   here : {c k : ℕ} {classes : List ℕ} → field_in heads name desc c ≡ Some k → FieldSearch heads name desc (c ∷ classes) (Some (field_number heads c k))
   further : {c : ℕ} {classes : List ℕ} {found : Option ℕ} → field_in heads name desc c ≡ None
       → FieldSearch heads name desc (supertypes_of heads c ++ classes) found → FieldSearch heads name desc (c ∷ classes) found
-
--- some class at or above class c declares the field
-abbrev pub IsDeclaredAbove : List ClassHead → (name desc : List ℕ) → (c : ℕ) → Type 0
-IsDeclaredAbove heads name desc c = (e : ℕ) × (k : ℕ) × IsAtOrAbove heads c e × (field_in heads name desc e ≡ Some k)
 
 -- where the look-up of a field that is named in class c ends
 pub data FindsField (heads : List ClassHead) (name desc : List ℕ) (c : ℕ) : FieldAt → Type 0 where

@@ -2,7 +2,8 @@ ghost use Rattle.std.specs.Prelude.{◌≡◌, ℕ, ◌<◌, ◌↔◌, ◌+◌,
 ghost use Rattle.ja_base.specs.Index.{numbers_at};
 ghost use Rattle.ja_hier.specs.InnerIndex.{first_place, is_field, Covers, DeclaresFor, IsBetween, IsIndexed, IsLowest, IsNowhereOn, IsStraight, LeadsOn, Meets};
 ghost use Rattle.ja_supertypes.specs.Supertypes.{IsSupertype};
-ghost use Rattle.ja_hier.specs.LookUps.{field_in, field_number, FieldSearch, FindsField, IsDeclaredAbove};
+ghost use Rattle.ja_hier.specs.LookUps.{field_in, field_number, FieldSearch, FindsField};
+ghost use Rattle.ja_hier.specs.InnerIndex.{IsDeclaredAbove};
 
 use crate::FieldAt;
 use crate::above::{fewer, has_above};

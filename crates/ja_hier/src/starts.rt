@@ -3,7 +3,7 @@ ghost use Rattle.ja_hier.specs.InnerIndex.{AreStarts};
 ghost use Rattle.ja_hier.specs.Members.{count_of, IsNumbered};
 ghost use Rattle.ja_base.specs.Limit.{max_numbered};
 
-use ja_base::{Memory, Numbers, Seq};
+use ja_base::{MAX_NUMBERED, Memory, Numbers, Seq};
 use ja_ir::ClassHead;
 use std::alloc::Global;
 
@@ -28,7 +28,7 @@ pub fn count_of(member: Member, head: &ClassHead) -> u64
 fn are_few(heads: &[ClassHead], member: Member) -> bool
     ensures { IsTrue result ↔ (sum_by (count_of member) heads.now ≤ max_numbered) }
 {
-    let mut left: u64 = 67_108_864;
+    let mut left = MAX_NUMBERED;
     for head in heads {
         let count = count_of(member, head);
         if count > left {
@@ -44,7 +44,9 @@ fn are_few(heads: &[ClassHead], member: Member) -> bool
 pub fn is_numbered(heads: &[ClassHead]) -> bool
     ensures { IsTrue result ↔ IsNumbered heads.now }
 {
-    heads.len() <= 67_108_864 && are_few(heads, Member::Field) && are_few(heads, Member::Method)
+    heads.len() as u64 <= MAX_NUMBERED
+        && are_few(heads, Member::Field)
+        && are_few(heads, Member::Method)
 }
 
 /// For each class the number of the members of a kind that the classes before it declare.

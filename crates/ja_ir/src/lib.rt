@@ -15,6 +15,7 @@ mod op;
 mod program;
 mod project;
 mod row;
+mod stack;
 mod successors;
 
 pub use block::{Block, Blocks, blocks_of};
@@ -30,4 +31,5 @@ pub use method::{Catch, Handler, Handlers, Instr, Instrs, Method, Methods};
 pub use op::{CallKind, CallOp, Op, Token};
 pub use program::{Parts, Program};
 pub use row::{LibRow, RowEffect, RowFlow, RowResult};
+pub use stack::{arguments, has_receiver, is_dispatched, pops, pushes};
 pub use successors::Successors;

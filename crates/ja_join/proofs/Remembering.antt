@@ -12,7 +12,7 @@ use Rattle.ja_join.specs.declared.rule.States.{States}
 use Rattle.ja_join.specs.declared.rule.Rule.{Rule}
 use Rattle.ja_join.specs.declared.memo.Noted.{Noted}
 use Rattle.ja_join.specs.declared.memo.Memo.{Memo}
-use Rattle.ja_join.specs.Inner.{stepped_from, AreRight, HasNoted}
+use Rattle.ja_join.specs.Inner.{passed_from, AreRight, HasNoted}
 
 -- what is meant stays meant
 pub meant_still : (k l : Words) → Keeps k l → (n : ℕ) (φ : Function) → IsMeant k n φ → IsMeant l n φ
@@ -25,17 +25,19 @@ pub right_still : (rule : Rule) (k l : Words) (memo : Memo) → Keeps k l → Ar
 right_still rule k l memo keeps right i e at call =
     let r = right i e at call in
     let more = keeps e.asked.number r.0 in
-    let still = meant_still k l keeps e.made.number (stepped_from rule e.at e.states (meaning k e.asked.number)) r.1 in
-    (more.0, subst (λ φ. IsMeant l e.made.number (stepped_from rule e.at e.states φ)) (sym more.1) still)
+    let other = keeps e.told.number r.1 in
+    let still = meant_still k l keeps e.made.number (passed_from rule e.at e.states (meaning k e.asked.number) (meaning k e.told.number)) r.2 in
+    (more.0, other.0, subst (λ (z : Function × Function). IsMeant l e.made.number (passed_from rule e.at e.states z.0 z.1)) (λ i. (sym more.1 i, sym other.1 i)) still)
 
 -- what is found is right
-pub found_right : (rule : Rule) (k : Words) (memo : Memo) (at : ℕ) (s : States) (asked made : ℕ) → AreRight rule k memo → HasNoted memo at s asked made → IsMeant k made (stepped_from rule at s (meaning k asked))
-found_right rule k memo at s asked made right (i, e, there, call, is_at, is_s, is_asked, is_made) =
-    let r = right i e there call in
-    subst (λ n. IsMeant k n (stepped_from rule at s (meaning k asked))) is_made
-    (subst (λ n. IsMeant k e.made.number (stepped_from rule at s (meaning k n))) is_asked
-    (subst (λ t. IsMeant k e.made.number (stepped_from rule at t (meaning k e.asked.number))) is_s
-    (subst (λ j. IsMeant k e.made.number (stepped_from rule j e.states (meaning k e.asked.number))) is_at r.1)))
+pub found_right : (rule : Rule) (k : Words) (memo : Memo) (at : ℕ) (s : States) (asked told made : ℕ) → AreRight rule k memo → HasNoted memo at s asked told made → IsMeant k made (passed_from rule at s (meaning k asked) (meaning k told))
+found_right rule k memo at s asked told made right (i, e, there, call, is_at, is_s, is_asked, is_told, is_made) =
+    let r = (right i e there call).2 in
+    subst (λ n. IsMeant k n (passed_from rule at s (meaning k asked) (meaning k told))) is_made
+    (subst (λ n. IsMeant k e.made.number (passed_from rule at s (meaning k asked) (meaning k n))) is_told
+    (subst (λ n. IsMeant k e.made.number (passed_from rule at s (meaning k n) (meaning k e.told.number))) is_asked
+    (subst (λ t. IsMeant k e.made.number (passed_from rule at t (meaning k e.asked.number) (meaning k e.told.number))) is_s
+    (subst (λ j. IsMeant k e.made.number (passed_from rule j e.states (meaning k e.asked.number) (meaning k e.told.number))) is_at r))))
 
 -- what is at some place once one entry is replaced is that entry, or stood there before
 at_set : (es : List Noted) (i : ℕ) (e : Noted) (j : ℕ) (x : Noted) → slice_get (slice_set es i e) j ≡ Some x → (x ≡ e) ⊎ (slice_get es j ≡ Some x)
@@ -45,15 +47,24 @@ at_set es i e j x at =
     (λ same. inl (sym (get_or_from_slice_get (set es i e) j x e at) ∙ ap (λ n. get_or (set es i e) n e) same ∙ get_or-set_same es i e e (subst (λ n. n < length es) same lt)))
     (λ ne. inr (slice_get-get_or es j x lt ∙ ap Some (sym (get_or-set_other es i j e x ne) ∙ get_or_from_slice_get (set es i e) j x x at)))
 
--- a right answer is noted
-pub right_noted : (rule : Rule) (k : Words) (memo memo' : Memo) (e : Noted) → AreRight rule k memo → Knows k e.asked.number → IsMeant k e.made.number (stepped_from rule e.at e.states (meaning k e.asked.number)) → memo'.call ≡ memo.call
-    → (memo' ≡ memo) ⊎ ((i : ℕ) × (memo'.entries.items ≡ slice_set memo.entries.items i e)) → AreRight rule k memo'
-right_noted rule k memo memo' e right known is call (inl same) j x at own = subst (AreRight rule k) (sym same) right j x at own
-right_noted rule k memo memo' e right known is call (inr (i, same)) j x at own = by_place (at_set memo.entries.items i e j x (ap (λ es. slice_get es j) (sym same) ∙ at))
+-- the answer that is noted is right
+abbrev pub IsRight : Rule → Words → Noted → Type 0
+IsRight rule k e = Knows k e.asked.number × Knows k e.told.number × IsMeant k e.made.number (passed_from rule e.at e.states (meaning k e.asked.number) (meaning k e.told.number))
+
+-- what holds of all that is noted of a call, and of one more answer, holds of all once that is noted
+pub all_noted : (P : Noted → Type 0) (memo memo' : Memo) (e : Noted) → ((j : ℕ) (x : Noted) → slice_get memo.entries.items j ≡ Some x → x.call ≡ memo.call → P x) → P e → memo'.call ≡ memo.call
+    → (memo' ≡ memo) ⊎ ((i : ℕ) × (memo'.entries.items ≡ slice_set memo.entries.items i e)) → (j : ℕ) (x : Noted) → slice_get memo'.entries.items j ≡ Some x → x.call ≡ memo'.call → P x
+all_noted P memo memo' e all is call (inl same) j x at own = all j x (ap (λ (m : Memo). slice_get m.entries.items j) (sym same) ∙ at) (own ∙ call)
+all_noted P memo memo' e all is call (inr (i, same)) j x at own = by_place (at_set memo.entries.items i e j x (ap (λ es. slice_get es j) (sym same) ∙ at))
   where
-    by_place : (x ≡ e) ⊎ (slice_get memo.entries.items j ≡ Some x) → Knows k x.asked.number × IsMeant k x.made.number (stepped_from rule x.at x.states (meaning k x.asked.number))
-    by_place (inl new) = subst (λ y. Knows k y.asked.number × IsMeant k y.made.number (stepped_from rule y.at y.states (meaning k y.asked.number))) (sym new) (known, is)
-    by_place (inr old) = right j x old (own ∙ call)
+    by_place : (x ≡ e) ⊎ (slice_get memo.entries.items j ≡ Some x) → P x
+    by_place (inl new) = subst P (sym new) is
+    by_place (inr old) = all j x old (own ∙ call)
+
+-- a right answer is noted
+pub right_noted : (rule : Rule) (k : Words) (memo memo' : Memo) (e : Noted) → AreRight rule k memo → IsRight rule k e → memo'.call ≡ memo.call
+    → (memo' ≡ memo) ⊎ ((i : ℕ) × (memo'.entries.items ≡ slice_set memo.entries.items i e)) → AreRight rule k memo'
+right_noted rule k memo memo' e right is call kept = all_noted (IsRight rule k) memo memo' e right is call kept
 
 -- in a call in which nothing was noted, what is noted is right
 pub right_none : (rule : Rule) (k : Words) (memo : Memo) → ((i : ℕ) (e : Noted) → slice_get memo.entries.items i ≡ Some e → e.call ≢ memo.call) → AreRight rule k memo

@@ -1,12 +1,11 @@
 -- What a rule allows, and what it makes of a function.
-use Rattle.std.specs.Prelude.{◌≡◌, ◌||◌, ◌==◌, not, bit_and, bit_or, Bool, true, false, List, [], ◌∷◌}
+use Rattle.std.specs.Prelude.{◌≡◌, ◌&&◌, ◌||◌, ◌==◌, not, bit_and, bit_or, Bool, true, false, List, [], ◌∷◌}
 use Rattle.ja_node_core.specs.Tree.{Assignment}
 use Rattle.ja_join.specs.declared.rule.States.{States}
 use Rattle.ja_join.specs.declared.rule.Masks.{Masks}
 use Rattle.ja_join.specs.declared.rule.Move.{Move}
-use Rattle.ja_join.specs.Ascending.{present}
 
--- the masks of a move, where its slot has these truths before and after
+-- the masks of a move, where its variable has these truths before and after
 abbrev pub masks_of : Move → (before after : Bool) → Masks
 masks_of m false false = m.low_low
 masks_of m false true = m.low_high
@@ -28,7 +27,11 @@ accepts accepted s = not (bit_and s.waiting accepted.waiting == 0) || not (bit_a
 abbrev pub IsDead : States → Type 0
 IsDead s = (s.waiting ≡ 0) × (s.seen ≡ 0)
 
--- moves allow the truths before and after of their slots at present, from some states on
+-- the truth after a move that counts: none where the move forgets its variable
+abbrev pub truth_after : Move → Assignment → Bool
+truth_after m after = not m.forgets && after m.variable
+
+-- moves allow the truths before and after of their variables, from some states on
 abbrev pub allows : (accepted : States) → List Move → States → (before after : Assignment) → Bool
 allows accepted [] s before after = accepts accepted s
-allows accepted (m ∷ moves) s before after = allows accepted moves (next_states m (before (present m.place)) (after (present m.place)) s) before after
+allows accepted (m ∷ moves) s before after = allows accepted moves (next_states m (before m.variable) (truth_after m after) s) before after

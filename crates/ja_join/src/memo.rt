@@ -16,6 +16,7 @@ pub(crate) struct Noted {
     pub(crate) at: usize,
     pub(crate) states: States,
     pub(crate) asked: Node,
+    pub(crate) told: Node,
     pub(crate) made: Node,
 }
 
@@ -28,6 +29,7 @@ const NOTHING: Noted = Noted {
         seen: 0,
     },
     asked: Node::FALSE,
+    told: Node::FALSE,
     made: Node::FALSE,
 };
 
@@ -35,13 +37,14 @@ impl Noted {
     ghost use Rattle.std.specs.Prelude.{◌≡◌, IsTrue};
 
     /// Whether this is the answer of a call to a question.
-    fn answers(&self, call: u64, at: usize, states: States, asked: Node) -> bool
-        ensures { IsTrue result → (self.now.call ≡ call) × (self.now.at ≡ at) × (self.now.states ≡ states) × (self.now.asked.number ≡ asked.number) }
+    fn answers(&self, call: u64, at: usize, states: States, asked: Node, told: Node) -> bool
+        ensures { IsTrue result → (self.now.call ≡ call) × (self.now.at ≡ at) × (self.now.states ≡ states) × (self.now.asked.number ≡ asked.number) × (self.now.told.number ≡ told.number) }
     {
         self.call == call
             && self.at == at
             && self.states.is_one(states)
             && self.asked.number == asked.number
+            && self.told.number == told.number
     }
 }
 
@@ -57,13 +60,15 @@ pub struct Memo {
 }
 
 impl Memo {
-    ghost use Rattle.std.specs.Prelude.{◌≡◌, ◌≢◌, ◌⊎◌, ◌≤◌, ◌<◌, ℕ, IfSome, Some, slice_get, slice_set};
+    ghost use Rattle.std.specs.Prelude.{◌≡◌, ◌≢◌, ◌⊎◌, ◌≤◌, ◌<◌, ℕ, IfOk, IfSome, Some, slice_get, slice_set};
     ghost use Rattle.ja_join.specs.declared.memo.Noted.{Noted};
     ghost use Rattle.ja_join.specs.Inner.{HasNoted};
+    ghost use Rattle.ja_join.specs.Memos.{entry_count};
 
     /// A memo of so many entries, at most 2^20.
     pub fn new(alloc: Global, entries: usize) -> Result<Memo, Memory>
         requires { (1 ≤ entries) × (entries ≤ 1048576) }
+        ensures { IfOk result (λ memo. entry_count memo ≡ entries) }
     {
         let entries = Vec::from_elem(alloc, NOTHING, entries)?;
         Ok(Memo { entries, call: 0 })
@@ -79,21 +84,22 @@ impl Memo {
     }
 
     /// The one place of an answer.
-    fn place(&self, at: usize, states: States, asked: Node) -> usize
+    fn place(&self, at: usize, states: States, asked: Node, told: Node) -> usize
         ensures { result < length self.now.entries.items }
     {
         let states = u64::from(states.waiting) << 32 | u64::from(states.seen);
-        let key = u64::from(asked.number) << 32 ^ at as u64 ^ states.wrapping_mul(MIXER);
+        let nodes = u64::from(asked.number) << 32 | u64::from(told.number);
+        let key = nodes ^ (at as u64 ^ states.wrapping_mul(MIXER)).wrapping_mul(MIXER);
         scaled(key.wrapping_mul(MIXER) >> 32, self.entries.len())
     }
 
     /// What was answered in this call, if it is noted.
-    pub(crate) fn find(&self, at: usize, states: States, asked: Node) -> Option<Node>
-        ensures { IfSome result (λ n. HasNoted self.now at states asked.number n.number) }
+    pub(crate) fn find(&self, at: usize, states: States, asked: Node, told: Node) -> Option<Node>
+        ensures { IfSome result (λ n. HasNoted self.now at states asked.number told.number n.number) }
     {
-        let place = self.place(at, states, asked);
+        let place = self.place(at, states, asked, told);
         let noted = self.entries[place];
-        if noted.answers(self.call, at, states, asked) {
+        if noted.answers(self.call, at, states, asked, told) {
             Some(noted.made)
         } else {
             None
@@ -101,19 +107,20 @@ impl Memo {
     }
 
     /// Notes an answer of this call.
-    pub(crate) fn keep(&mut self, at: usize, states: States, asked: Node, made: Node)
+    pub(crate) fn keep(&mut self, at: usize, states: States, asked: Node, told: Node, made: Node)
         ensures call { self.new.call ≡ self.old.call }
-        ensures kept { (self.new ≡ self.old) ⊎ ((i : ℕ) × (self.new.entries.items ≡ slice_set self.old.entries.items i record { call = self.old.call; at = at; states = states; asked = asked; made = made })) }
+        ensures kept { (self.new ≡ self.old) ⊎ ((i : ℕ) × (self.new.entries.items ≡ slice_set self.old.entries.items i record { call = self.old.call; at = at; states = states; asked = asked; told = told; made = made })) }
     {
         if self.call == u64::MAX {
             return;
         }
-        let place = self.place(at, states, asked);
+        let place = self.place(at, states, asked, told);
         self.entries[place] = Noted {
             call: self.call,
             at,
             states,
             asked,
+            told,
             made,
         };
     }

@@ -16,7 +16,8 @@ use Rattle.ja_methods.specs.Refusal.{IsRefused}
 use Rattle.ja_lower.specs.declared.fault.LowerFault.{LowerFault}
 use Rattle.ja_lower.specs.declared.fault.LowerFault.TheVariants.{Refused, Memory as NoMemory}
 use Rattle.ja_lower.specs.Program.{IsLowerFault, MethodsUpTo, heads_of, of_hierarchy, of_method}
-use Rattle.ja_lower.specs.Refusals.{IsOrMemory, NamesOneOf, hier_refusal, method_refusal}
+use Rattle.ja_lower.specs.Refusals.{hier_refusal, method_refusal}
+use Rattle.ja_lower.specs.InnerRefusals.{IsOrMemory, NamesOneOf}
 use Rattle.ja_lower.specs.InnerSteps.{MethodOrRefusal}
 use Rattle.ja_lower.proofs.UpTo.{no-memory, none-refused}
 

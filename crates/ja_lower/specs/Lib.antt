@@ -5,3 +5,4 @@ pub mod InnerSteps
 pub mod Accept
 pub mod InnerPlaces
 pub mod InnerAnswers
+pub mod InnerRefusals

@@ -1,9 +1,7 @@
 -- Faults of the parts of a folder as refusals of the folder. Want of memory refuses none.
-use Rattle.std.specs.Prelude.{◌≡◌, ℕ, ◌<◌, List, Option, Some, None, option_map, slice_get}
+use Rattle.std.specs.Prelude.{ℕ, List, Option, Some, None, option_map, slice_get}
 use Rattle.ja_base.specs.declared.refusal.Refusal.{Refusal}
 use Rattle.ja_base.specs.declared.refusal.Refusal.TheVariants.{TableText, TableKey, TableRow, TableEntry, TableCategory, End, BadMagic, BadVersion, BadTag, PoolWidth, BadText, BadIndex, BadDesc, BadAttribute, Trailing, BadOpcode, RefusedOpcode, BadBranch, BadHandler, CodeEnd, BadOperand, PlatformClass, Duplicate, Cycle, CrossPackage, Native, FrameSize, StackDepth, KindClash, FallsOff, Reflection, ThreadStart, LibraryStore, NoField}
-use Rattle.ja_lower.specs.declared.fault.LowerFault.{LowerFault}
-use Rattle.ja_lower.specs.declared.fault.LowerFault.TheVariants.{Refused, Memory}
 use Rattle.ja_lib.specs.declared.fault.TableFault.{TableFault}
 use Rattle.ja_lib.specs.declared.fault.TableFault.TheVariants as table
 use Rattle.ja_class.specs.declared.fault.ClassFault.{ClassFault}
@@ -50,14 +48,6 @@ hier_refusal files (hier.Cycle c) = option_map Cycle (slice_get files c)
 hier_refusal files (hier.CrossPackage c k) = option_map (λ file. CrossPackage file k) (slice_get files c)
 hier_refusal files hier.Memory = None
 
--- the class that a fault names is one of so many
-abbrev pub NamesOneOf : (size : ℕ) → HierFault → Type 0
-NamesOneOf size (hier.PlatformClass c) = c < size
-NamesOneOf size (hier.Duplicate c) = c < size
-NamesOneOf size (hier.Cycle c) = c < size
-NamesOneOf size (hier.CrossPackage c k) = c < size
-NamesOneOf size hier.Memory = Unit {0}
-
 -- a fault of method k of the class in this file
 abbrev pub method_refusal : (file : List ℕ) (k : ℕ) → MethodFault → Option Refusal
 method_refusal file k method.Native = Some (Native file k)
@@ -70,8 +60,3 @@ method_refusal file k (method.ThreadStart pc) = Some (ThreadStart file k pc)
 method_refusal file k (method.LibraryStore pc) = Some (LibraryStore file k pc)
 method_refusal file k (method.NoField pc) = Some (NoField file k pc)
 method_refusal file k method.Memory = None
-
--- the refusal is this, or memory ran out
-abbrev pub IsOrMemory : Option Refusal → LowerFault → Type 0
-IsOrMemory refusal (Refused found) = refusal ≡ Some found
-IsOrMemory refusal Memory = Unit {0}

@@ -1,5 +1,6 @@
 ghost use Rattle.std.specs.Prelude.{◌≡◌, ◌<◌, Some, IfSome, length, slice_get};
-ghost use Rattle.ja_lower.specs.Refusals.{IsOrMemory, NamesOneOf, hier_refusal, method_refusal};
+ghost use Rattle.ja_lower.specs.Refusals.{hier_refusal, method_refusal};
+ghost use Rattle.ja_lower.specs.InnerRefusals.{IsOrMemory, NamesOneOf};
 
 use crate::LowerFault;
 use crate::LowerFault::Refused;

@@ -11,7 +11,8 @@ use Rattle.ja_ir.specs.declared.op.Op.TheVariants.{Call}
 use Rattle.ja_ir.specs.declared.op.CallOp.{CallOp}
 use Rattle.ja_operations.specs.Sites.{IsSite, IsNoSite, sinks_of}
 use Rattle.ja_methods.specs.declared.site.MethodSite.{MethodSite}
-use Rattle.ja_methods.specs.Sites.{IsSiteAt, AreSitesOf, IsSilent, Joins}
+use Rattle.ja_methods.specs.Sites.{IsSiteAt, AreSitesOf}
+use Rattle.ja_methods.specs.InnerSites.{IsSilent, Joins}
 
 -- the list has the sink calls among the instructions before an index, in their order
 pub record SitesBelow (heads : List ClassHead) (list : List Instr) (i : ℕ) (sites : List MethodSite) : Type 0 where

@@ -4,3 +4,4 @@ pub mod Method
 pub mod Sites
 pub mod Refusal
 pub mod Whole
+pub mod InnerSites

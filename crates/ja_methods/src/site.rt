@@ -1,5 +1,6 @@
 ghost use Rattle.std.specs.Prelude.{◌≤◌, ◌^◌, length, IfOk, OnOk};
-ghost use Rattle.ja_methods.specs.Sites.{AreSitesOf, Joins};
+ghost use Rattle.ja_methods.specs.Sites.{AreSitesOf};
+ghost use Rattle.ja_methods.specs.InnerSites.{Joins};
 
 use ja_base::{Memory, Name, Numbers, Seq};
 use ja_hier::Hier;

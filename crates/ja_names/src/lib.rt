@@ -2,8 +2,6 @@
 //! reachability share.
 #![tactic(auto)]
 
-mod call;
 mod frame;
 
-pub use call::{arguments, has_receiver};
 pub use frame::{Frame, frame_of};

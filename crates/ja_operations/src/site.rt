@@ -1,11 +1,11 @@
 ghost use Rattle.std.specs.Prelude.{◌≡◌, IfOk, nat_lt};
-ghost use Rattle.ja_ir.specs.Operations.{has_receiver, arguments};
+ghost use Rattle.ja_ir.specs.Operations.{arguments};
 ghost use Rattle.ja_operations.specs.Sites.{sinks_of, target_of, IsSiteOrNone};
 
 use crate::refuse::finds_nothing;
 use ja_base::{Memory, Name, Numbers};
 use ja_hier::Hier;
-use ja_ir::{CallKind, CallOp};
+use ja_ir::{CallOp, has_receiver};
 use std::alloc::Global;
 
 /// Where a call may pass a value to a sink: the positions of its sinks among its arguments, a receiver
@@ -14,16 +14,6 @@ use std::alloc::Global;
 pub struct SinkCall {
     pub positions: Numbers,
     pub target: Name,
-}
-
-/// Whether a call of this kind has a receiver.
-fn has_receiver(kind: CallKind) -> bool
-    ensures { result ≡ has_receiver kind }
-{
-    match kind {
-        CallKind::Virtual | CallKind::Special | CallKind::Interface | CallKind::MemberField => true,
-        CallKind::Static | CallKind::StaticField => false,
-    }
 }
 
 /// Whether a place is one of an argument of the call.

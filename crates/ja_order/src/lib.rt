@@ -1,5 +1,4 @@
-//! The order of a method's variables in decision diagrams: a place for each slot of its frame; and how many
-//! values operations pop and push.
+//! The order of a method's variables in decision diagrams: a place for each slot of its frame.
 #![tactic(auto)]
 
 mod chains;
@@ -19,4 +18,3 @@ mod walk;
 pub use law::law_calls_keep_order;
 pub use make::{method_order, order_of, orders_of};
 pub use order::{Order, Orders};
-pub use stacked::{arguments, pops, pushes};

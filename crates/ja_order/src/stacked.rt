@@ -1,8 +1,5 @@
-ghost use Rattle.std.specs.Prelude.{◌≡◌};
-ghost use Rattle.ja_ir.specs.Operations as operations;
-
 use crate::sources::Sources;
-use ja_ir::{CallKind, CallOp, Op};
+use ja_ir::Op;
 
 /// A value on the stack: the locals that it was made from, and what it weighs.
 #[derive(Clone, Copy)]
@@ -16,53 +13,6 @@ impl Stacked {
     /// A new value that is made from these locals.
     pub fn of(made: Sources) -> Stacked {
         Stacked { made, weight: 0 }
-    }
-}
-
-/// How many values a call pops: its receiver and its arguments.
-pub fn arguments(call: &CallOp) -> u64
-    ensures { result ≡ operations.arguments call.now }
-{
-    let params = call.params.as_slice().len() as u64;
-    match call.kind {
-        CallKind::Static | CallKind::StaticField => params,
-        _ => params + 1,
-    }
-}
-
-/// How many values an operation pops.
-pub fn pops(op: &Op) -> u64
-    ensures { result ≡ operations.pops op.now }
-{
-    match op {
-        Op::Shuffle { pops, .. } | Op::Mix { pops, .. } | Op::Branch { pops } => *pops as u64,
-        Op::Call(call) => arguments(call),
-        Op::NewArray { dimensions, .. } => *dimensions as u64,
-        Op::Return(kind) => u64::from(kind.is_some()),
-        Op::ArrStore(_) => 3,
-        Op::ArrLoad(_) | Op::PutField(_) => 2,
-        Op::Nop | Op::Const(_) | Op::Text | Op::New(_) | Op::Load(..) | Op::GetStatic(_) => 0,
-        _ => 1,
-    }
-}
-
-/// How many values an operation pushes.
-pub fn pushes(op: &Op) -> u64
-    ensures { result ≡ operations.pushes op.now }
-{
-    match op {
-        Op::Shuffle { pushes, .. } => pushes.len(),
-        Op::Call(call) => u64::from(call.result.is_some()),
-        Op::Nop
-        | Op::Store(..)
-        | Op::ArrStore(_)
-        | Op::Branch { .. }
-        | Op::Return(_)
-        | Op::PutStatic(_)
-        | Op::PutField(_)
-        | Op::Throw
-        | Op::Monitor => 0,
-        _ => 1,
     }
 }
 

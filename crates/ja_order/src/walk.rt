@@ -1,9 +1,9 @@
 use crate::frame::Frame;
 use crate::sources::Sources;
-use crate::stacked::{Stacked, made_at, pops, pushed, pushes};
+use crate::stacked::{Stacked, made_at, pushed};
 use crate::starts::run_starts;
 use ja_base::Memory;
-use ja_ir::{Instr, Method, Op};
+use ja_ir::{Instr, Method, Op, pops, pushes};
 use std::alloc::Global;
 
 /// The most values that raise the weight of an instruction.

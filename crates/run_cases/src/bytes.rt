@@ -13,26 +13,42 @@ pub struct Spelled {
 /// The lines of a part that do not begin with `#`.
 pub fn lines_of<'a>(alloc: Global, part: &'a str) -> Result<Vec<&'a str>, AllocError> {
     let mut lines = Vec::new(alloc);
+    add_lines(&mut lines, part)?;
+    Ok(lines)
+}
+
+/// Adds the lines of a part that do not begin with `#`.
+fn add_lines<'a>(lines: &mut Vec<&'a str>, part: &'a str) -> Result<(), AllocError> {
     for line in part.lines() {
         if !line.is_empty() && !line.starts_with('#') {
             lines.push(line)?;
         }
     }
-    Ok(lines)
+    Ok(())
 }
 
 /// The bytes that lines spell, each by two hexadecimal digits.
 pub fn spelled_of(alloc: Global, name: &str, lines: &[&str]) -> Result<Spelled, Memory> {
+    let name = name.to_string(alloc)?;
+    let bytes = bytes_of(alloc, lines)?;
+    Ok(Spelled { name, bytes })
+}
+
+/// The bytes that lines spell.
+fn bytes_of(alloc: Global, lines: &[&str]) -> Result<Vec<u8>, AllocError> {
     let mut bytes = Vec::new(alloc);
     for line in lines {
-        for word in line.split_whitespace() {
-            bytes.push(byte_of(word))?;
-        }
+        add_bytes(&mut bytes, line)?;
     }
-    Ok(Spelled {
-        name: name.to_string(alloc)?,
-        bytes,
-    })
+    Ok(bytes)
+}
+
+/// Adds the bytes that a line spells.
+fn add_bytes(bytes: &mut Vec<u8>, line: &str) -> Result<(), AllocError> {
+    for word in line.split_whitespace() {
+        bytes.push(byte_of(word))?;
+    }
+    Ok(())
 }
 
 /// The byte that two hexadecimal digits spell.
@@ -55,21 +71,48 @@ pub fn name_of(alloc: Global, word: &str) -> Result<Name, Memory> {
 /// The files of the lines `file NAME BYTES CHANGE..` and `zeros NAME COUNT`.
 pub fn files_of(alloc: Global, spelled: &[Spelled], lines: &[&str]) -> Result<Files, Memory> {
     let mut files = Files::new(alloc);
+    add_files(&mut files, alloc, spelled, lines)?;
+    Ok(files)
+}
+
+/// Adds the files of lines.
+fn add_files(
+    files: &mut Files,
+    alloc: Global,
+    spelled: &[Spelled],
+    lines: &[&str],
+) -> Result<(), Memory> {
     for line in lines {
         let words = words_of(alloc, line)?;
-        match words.as_slice() {
-            ["file", name, of, changes @ ..] => files.push(File {
-                name: name_of(alloc, name)?,
-                bytes: changed(alloc, spelled, of, changes)?,
-            })?,
-            ["zeros", name, count] => files.push(File {
-                name: name_of(alloc, name)?,
-                bytes: zeros(alloc, number_of(count))?,
-            })?,
-            _ => (),
-        }
+        add_file(files, alloc, spelled, words.as_slice())?;
     }
-    Ok(files)
+    Ok(())
+}
+
+/// Adds the file that words say, if they say one.
+fn add_file(
+    files: &mut Files,
+    alloc: Global,
+    spelled: &[Spelled],
+    words: &[&str],
+) -> Result<(), Memory> {
+    match words {
+        ["file", name, of, changes @ ..] => {
+            let bytes = changed(alloc, spelled, of, changes)?;
+            push_file(files, alloc, name, bytes)
+        }
+        ["zeros", name, count] => {
+            let bytes = zeros(alloc, number_of(count))?;
+            push_file(files, alloc, name, bytes)
+        }
+        _ => Ok(()),
+    }
+}
+
+/// Adds a file with a name that a word spells.
+fn push_file(files: &mut Files, alloc: Global, name: &str, bytes: Bytes) -> Result<(), Memory> {
+    let name = name_of(alloc, name)?;
+    files.push(File { name, bytes })
 }
 
 /// So many zero bytes.
@@ -84,14 +127,21 @@ fn changed(
     of: &str,
     changes: &[&str],
 ) -> Result<Bytes, Memory> {
-    let mut bytes = match spelled.iter().find(|known| known.name.as_str() == of) {
-        Some(known) => Vec::from_slice(alloc, known.bytes.as_slice())?,
-        None => Vec::new(alloc),
-    };
-    for change in changes {
-        change_bytes(&mut bytes, change)?;
-    }
+    let known = spelled
+        .iter()
+        .find(|known| known.name.as_str() == of)
+        .map_or([].as_slice(), |known| known.bytes.as_slice());
+    let mut bytes = Vec::from_slice(alloc, known)?;
+    change_all(&mut bytes, changes)?;
     Ok(Bytes::from_vec(bytes))
+}
+
+/// Makes changes.
+fn change_all(bytes: &mut Vec<u8>, changes: &[&str]) -> Result<(), AllocError> {
+    for change in changes {
+        change_bytes(bytes, change)?;
+    }
+    Ok(())
 }
 
 /// A change: `PLACE=HEX` puts a byte at a place, and `+HEX` behind the others.
@@ -112,10 +162,16 @@ pub fn numbers_behind(alloc: Global, lines: &[&str], head: &str) -> Result<Numbe
     let mut numbers = Numbers::new(alloc);
     for line in lines {
         if let Some(rest) = line.strip_prefix(head) {
-            for word in rest.split_whitespace() {
-                numbers.push(number_of(word))?;
-            }
+            add_numbers(&mut numbers, rest)?;
         }
     }
     Ok(numbers)
+}
+
+/// Adds the numbers that words spell.
+fn add_numbers(numbers: &mut Numbers, words: &str) -> Result<(), Memory> {
+    for word in words.split_whitespace() {
+        numbers.push(number_of(word))?;
+    }
+    Ok(())
 }

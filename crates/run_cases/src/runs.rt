@@ -1,8 +1,9 @@
 //! Runs of the analyser.
-use crate::bytes::{Spelled, files_of, name_of, numbers_behind};
+use crate::bytes::{Spelled, name_of};
+use crate::folder::folder_of;
 use crate::sink::sink_of;
 use ja_base::{Memory, Name, Names};
-use ja_io::{MemFolder, NoGate, has_distinct_names};
+use ja_io::{MemFolder, NoGate};
 use ja_run::run;
 use std::alloc::Global;
 use std::thread::Threads;
@@ -15,25 +16,56 @@ pub fn add_run<R: Threads + Sync>(
     spelled: &[Spelled],
     lines: &[&str],
 ) -> Result<(), Memory> {
-    let words = words_given(alloc, lines)?;
-    let files = files_of(alloc, spelled, lines)?;
-    if !has_distinct_names(files.as_slice()) {
-        return Ok(writeln!(out, "two files of one name")?);
+    match folder_of(alloc, spelled, lines)? {
+        Some(mut folder) => add_run_over(out, rt, alloc, &mut folder, lines),
+        None => Ok(writeln!(out, "two files of one name")?),
     }
-    let fails = numbers_behind(alloc, lines, "folder fails ")?;
-    let mut folder = MemFolder::new(Name::of(alloc, b"d")?, files, fails);
+}
+
+/// Adds the status of a run over a folder, and what it wrote.
+fn add_run_over<R: Threads + Sync>(
+    out: &mut String,
+    rt: &R,
+    alloc: Global,
+    folder: &mut MemFolder,
+    lines: &[&str],
+) -> Result<(), Memory> {
+    let words = words_given(alloc, lines)?;
+    add_run_of(out, rt, alloc, words.as_slice(), folder, lines)
+}
+
+/// Adds the status of a run of these words over a folder, and what it wrote.
+fn add_run_of<R: Threads + Sync>(
+    out: &mut String,
+    rt: &R,
+    alloc: Global,
+    words: &[Name],
+    folder: &mut MemFolder,
+    lines: &[&str],
+) -> Result<(), Memory> {
     let mut sink = sink_of(alloc, lines)?;
-    let status = run(rt, alloc, words.as_slice(), &mut folder, &mut sink, &NoGate);
-    writeln!(out, "status {}", status.number())?;
-    Ok(out.push_str(str::from_utf8(sink.written()).unwrap_or("?"))?)
+    let status = run(rt, alloc, words, folder, &mut sink, &NoGate).number();
+    add_told(out, status, sink.written())
+}
+
+/// Adds a status and what was written.
+fn add_told(out: &mut String, status: u8, written: &[u8]) -> Result<(), Memory> {
+    writeln!(out, "status {status}")?;
+    Ok(out.push_str(str::from_utf8(written).unwrap_or("?"))?)
 }
 
 /// The words behind `words`, or `analyse` and `d` where no line gives them.
 fn words_given(alloc: Global, lines: &[&str]) -> Result<Names, Memory> {
     let given = lines.iter().find_map(|line| line.strip_prefix("words"));
     let mut words = Names::new(alloc);
-    for word in given.unwrap_or("analyse d").split_whitespace() {
-        words.push(name_of(alloc, word)?)?;
-    }
+    add_names(&mut words, alloc, given.unwrap_or("analyse d"))?;
     Ok(words)
+}
+
+/// Adds the names that words spell.
+fn add_names(names: &mut Names, alloc: Global, words: &str) -> Result<(), Memory> {
+    for word in words.split_whitespace() {
+        names.push(name_of(alloc, word)?)?;
+    }
+    Ok(())
 }

@@ -1,28 +1,49 @@
-//! Reads table files that stand in text, and prints what each says.
+//! Reads table files, makes class hierarchies, and asks a real directory and real streams, and prints what each
+//! answers.
 //!
-//! The stored input says how its lines are read. Behind `== ` and the title of each case the program prints, of a
-//! table, `read` or the fault, and each question with its answer; of tables of one line each the line, and behind
-//! ` => ` the same.
+//! What is asked stands in the files `tables.txt`, `hierarchies.txt` and `edges.txt`, which say how their lines are
+//! read.
 #![tactic(auto)]
 
-mod answer;
-mod case;
-mod shown;
-mod text;
+mod edges;
+mod hierarchies;
+mod tables;
 
-use case::case_text;
-use std::io;
+use edges::print_answers;
+use hierarchies::hierarchies_text;
+use ja_base::Memory;
+use std::{fs, io};
+use tables::tables_text;
+
+/// Prints a text.
+fn print_text(rt: &HostRuntime, text: Result<String, Memory>) -> io::Result<()> {
+    print!(rt;
+        "{}",
+        text.as_ref()
+            .map_or("out of memory\n", |text| text.as_str())
+    )
+}
+
+/// Prints what comes of the tables.
+fn print_tables(rt: &HostRuntime) -> io::Result<()> {
+    let text = fs::read_to_string(rt, "tables.txt")?;
+    print_text(rt, tables_text(rt.alloc(), text.as_str()))
+}
+
+/// Prints what comes of the hierarchies.
+fn print_hierarchies(rt: &HostRuntime) -> io::Result<()> {
+    let text = fs::read_to_string(rt, "hierarchies.txt")?;
+    print_text(rt, hierarchies_text(rt.alloc(), text.as_str()))
+}
+
+/// Prints what a directory and streams answer.
+fn print_edges(rt: &HostRuntime) -> io::Result<()> {
+    let text = fs::read_to_string(rt, "edges.txt")?;
+    print_answers(rt, text.as_str())
+}
 
 fn main(rt: HostRuntime) -> io::Result<()> {
-    let text = io::read_to_string(rt.alloc(), rt.reader())?;
-    for case in text.as_str().split("\ntable").skip(1) {
-        let answers = case_text(rt.alloc(), case);
-        print!(rt;
-            "{}",
-            answers
-                .as_ref()
-                .map_or("out of memory\n", |text| text.as_str())
-        )?;
-    }
-    Ok(())
+    print_tables(&rt)?;
+    print_hierarchies(&rt)?;
+    print_edges(&rt)
 }

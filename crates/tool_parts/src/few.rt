@@ -1,19 +1,18 @@
 //! Whether classes have few enough members and instructions to be lowered.
-ghost use Rattle.std.specs.Prelude.{◌≡◌, ◌+◌, ◌≤◌, ◌^◌, length, IsTrue, IfSome, sum_by};
+ghost use Rattle.std.specs.Prelude.{◌≡◌, ◌+◌, ◌≤◌, length, IsTrue, IfSome, sum_by};
+ghost use Rattle.ja_base.specs.Limit.{max_numbered};
 ghost use Rattle.ja_class.specs.declared.class.ClassMethod.{ClassMethod};
 ghost use Rattle.ja_class.specs.Meaning.{ClassSpelled};
 ghost use Rattle.ja_lower.specs.Program.{AreFew, code_length, instruction_count};
 
+use ja_base::MAX_NUMBERED;
 use ja_class::{Class, ClassMethod};
-
-/// The most classes, fields, methods and instructions that are lowered.
-const MOST: u64 = 67_108_864;
 
 /// Whether classes have few enough fields.
 fn few_fields(classes: &[Class]) -> bool
-    ensures { IsTrue result → sum_by (λ (class : ClassSpelled). length class.head.fields) classes.now ≤ 2 ^ 26 }
+    ensures { IsTrue result → sum_by (λ (class : ClassSpelled). length class.head.fields) classes.now ≤ max_numbered }
 {
-    let mut left: u64 = MOST;
+    let mut left: u64 = MAX_NUMBERED;
     for class in classes {
         let count = class.head.fields.len();
         if count > left {
@@ -26,9 +25,9 @@ fn few_fields(classes: &[Class]) -> bool
 
 /// Whether classes have few enough methods.
 fn few_methods(classes: &[Class]) -> bool
-    ensures { IsTrue result → sum_by (λ (class : ClassSpelled). length class.head.methods) classes.now ≤ 2 ^ 26 }
+    ensures { IsTrue result → sum_by (λ (class : ClassSpelled). length class.head.methods) classes.now ≤ max_numbered }
 {
-    let mut left: u64 = MOST;
+    let mut left: u64 = MAX_NUMBERED;
     for class in classes {
         let count = class.head.methods.len();
         if count > left {
@@ -62,9 +61,9 @@ fn code_len(method: &ClassMethod) -> u64
 
 /// Whether classes have few enough instructions.
 fn few_instructions(classes: &[Class]) -> bool
-    ensures { IsTrue result → instruction_count classes.now ≤ 2 ^ 26 }
+    ensures { IsTrue result → instruction_count classes.now ≤ max_numbered }
 {
-    let mut left: u64 = MOST;
+    let mut left: u64 = MAX_NUMBERED;
     for class in classes {
         let Some(count) = instructions_of(class) else {
             return false;
@@ -81,7 +80,7 @@ fn few_instructions(classes: &[Class]) -> bool
 pub fn are_few(classes: &[Class]) -> bool
     ensures { IsTrue result → AreFew classes.now }
 {
-    classes.len() as u64 <= MOST
+    classes.len() as u64 <= MAX_NUMBERED
         && few_fields(classes)
         && few_methods(classes)
         && few_instructions(classes)

@@ -16,6 +16,8 @@ returns c = record {
   class_not_named = refl;
   failed_initializer = refl;
   nothing_after_it = refl;
+  aliased_object = refl;
+  object_alone = refl;
   labelled_text = refl;
   array_element = refl;
 }

@@ -2,7 +2,8 @@ use Rattle.std.proofs.Common.{ℕ, ◌<◌, ◌∷◌, [], length}
 use Rattle.std.specs.Prelude.{Some}
 use Rattle.ja_base.specs.Index.{numbers_at}
 use Rattle.ja_hier.specs.InnerIndex.{Covers}
-use Rattle.ja_hier.specs.LookUps.{IsDeclaredAbove, FieldSearch}
+use Rattle.ja_hier.specs.LookUps.{FieldSearch}
+use Rattle.ja_hier.specs.InnerIndex.{IsDeclaredAbove}
 use Rattle.ja_supertypes.proofs.Ranks.{rank_of}
 use Rattle.ja_hier.proofs.fields.declared_field.Given as goal
 

@@ -1,6 +1,7 @@
 use Rattle.std.proofs.Common.{◌≡◌, ℕ, List, true, subst}
 use Rattle.std.specs.Prelude.{Contains}
-use Rattle.ja_hier.specs.LookUps.{IsDeclaredAbove, in_program, in_library, missing}
+use Rattle.ja_hier.specs.LookUps.{in_program, in_library, missing}
+use Rattle.ja_hier.specs.InnerIndex.{IsDeclaredAbove}
 use Rattle.ja_supertypes.proofs.Ranks.{rank_of, rank-falls}
 use Rattle.ja_hier.proofs.FieldWays.{finds-nothing}
 use Rattle.ja_hier.proofs.fields.find_field.Goals as goal

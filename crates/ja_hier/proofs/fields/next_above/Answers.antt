@@ -1,7 +1,7 @@
 use Rattle.std.proofs.Common.{◌≡◌, ℕ, ◌<◌, length, get_or, true, ◌∙◌, arith, below_more}
 use Rattle.ja_supertypes.specs.Supertypes.{supertypes_of}
 use Rattle.ja_base.specs.Index.{numbers_at}
-use Rattle.ja_hier.specs.LookUps.{IsDeclaredAbove}
+use Rattle.ja_hier.specs.InnerIndex.{IsDeclaredAbove}
 use Rattle.ja_supertypes.proofs.Ranks.{rank_of, rank-falls}
 use Rattle.ja_hier.proofs.FieldWays.{leads-on, no-next, next-inside}
 use Rattle.ja_hier.proofs.Straight.{covers-next}

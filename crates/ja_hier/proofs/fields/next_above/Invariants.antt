@@ -1,5 +1,5 @@
 use Rattle.std.proofs.Common.{ℕ, ◌<◌, get_or}
-use Rattle.ja_hier.specs.LookUps.{IsDeclaredAbove}
+use Rattle.ja_hier.specs.InnerIndex.{IsDeclaredAbove}
 use Rattle.ja_hier.proofs.fields.next_above.Given as goal
 
 abbrev pub invariant-loop-next : goal.invariant-loop-next

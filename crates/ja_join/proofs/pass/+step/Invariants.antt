@@ -1,5 +1,4 @@
 use Rattle.std.proofs.Common.{◌+◌, ◌*◌, ◌-◌}
-use Rattle.ja_join.specs.Ascending.{present}
 use Rattle.ja_join.proofs.pass.+step.Given as goal
 
 abbrev pub decreases-step_from : goal.decreases-step_from
@@ -12,7 +11,7 @@ abbrev pub decreases-step_kept : goal.decreases-step_kept
 decreases-step_kept g l = 4 * (4096 - l.cut.var) + 1
 
 abbrev pub decreases-step_moved : goal.decreases-step_moved
-decreases-step_moved g l = 4 * (4096 - present l.step.place) + 1
+decreases-step_moved g l = 4 * (4096 - l.step.variable) + 1
 
 abbrev pub decreases-step_to : goal.decreases-step_to
-decreases-step_to g l = 4 * (4096 - present l.step.place)
+decreases-step_to g l = 4 * (4096 - l.step.variable)

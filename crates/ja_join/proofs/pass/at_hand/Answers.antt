@@ -1,7 +1,7 @@
-use Rattle.std.proofs.Common.{◌≡◌, ◌≤◌, ℕ, false, length, drop, List, sym, ap, ◌∙◌, subst, arith}
+use Rattle.std.proofs.Common.{◌≡◌, ℕ, Bool, true, false, drop, List, refl, sym, ap, ◌∙◌}
 use Rattle.std.specs.Prelude.{◌&&◌}
-use Rattle.std.proofs.lemmas.List.{drop_all}
 use Rattle.std.proofs.lemmas.Option.{IfSome_then}
+use Rattle.ja_node_core.specs.Tree.{Assignment}
 use Rattle.ja_node_core.specs.Node.{Words, Knows}
 use Rattle.ja_bdd.specs.Functions.{Function}
 use Rattle.ja_bdd.specs.Meaning.{meaning, IsMeant}
@@ -9,49 +9,59 @@ use Rattle.ja_bdd.specs.Workers.{seen}
 use Rattle.ja_bdd.proofs.Sound.{Sound, seat_sound, knows_constant, meaning_constant}
 use Rattle.ja_join.specs.declared.rule.States.{States}
 use Rattle.ja_join.specs.declared.rule.Move.{Move}
-use Rattle.ja_join.specs.Moves.{accepts, IsDead}
-use Rattle.ja_join.specs.Inner.{stepped}
+use Rattle.ja_join.specs.Moves.{IsDead}
+use Rattle.ja_join.specs.Steps.{told_by, handed, joint}
+use Rattle.ja_join.specs.Inner.{passed}
 use Rattle.ja_join.proofs.Stepping.{dead_stepped, empty_stepped}
 use Rattle.ja_join.proofs.Remembering.{found_right}
 use Rattle.ja_join.proofs.pass.at_hand.Goals as goal
 
+and_none : (b : Bool) → (b && false) ≡ false
+and_none true = refl
+and_none false = refl
+
 module _ (k : Words) (sound : Sound k) (accepted : States) (moves : List Move) (s : States) where
   -- where no state is possible, nothing is made
-  dead_meant : (φ : Function) → IsDead s → IsMeant k 0 (stepped accepted moves s φ)
-  dead_meant φ dead = (knows_constant k false, meaning_constant k sound false ∙ sym (λ i a. dead_stepped accepted moves s φ a dead i))
+  dead_meant : (φ σ : Function) → IsDead s → IsMeant k 0 (passed accepted moves s φ σ)
+  dead_meant φ σ dead = (knows_constant k false, meaning_constant k sound false ∙ sym (λ i a. dead_stepped accepted moves s (joint moves φ σ) a dead i))
 
   -- nothing is made of nothing
-  empty_meant : (r : ℕ) → r ≡ 0 → Knows k r → IsMeant k r (stepped accepted moves s (meaning k r))
-  empty_meant r none known = (known, is ∙ sym (λ i a. empty_stepped accepted moves s (meaning k r) (λ b j. is j b) a i))
+  empty_meant : (r : ℕ) (σ : Function) → r ≡ 0 → Knows k r → IsMeant k r (passed accepted moves s (meaning k r) σ)
+  empty_meant r σ none known = (known, is ∙ sym (λ i a. empty_stepped accepted moves s (joint moves (meaning k r) σ) (λ b j. is j b && handed moves σ b) a i))
     where
       is : meaning k r ≡ (λ a. false)
       is = ap (meaning k) none ∙ meaning_constant k sound false
 
-  -- nor behind the last move, where no state may be left
-  left_meant : (at : ℕ) (φ : Function) → length moves ≤ at → accepts accepted s ≡ false → IsMeant k 0 (stepped accepted (drop at moves) s φ)
-  left_meant at φ le closed = subst (λ rest. IsMeant k 0 (stepped accepted rest s φ)) (sym (drop_all at moves le)) (knows_constant k false, meaning_constant k sound false ∙ sym (λ i a. closed i && φ a))
+  -- nor with nothing of the callee's
+  unheld_meant : (g : ℕ) (φ : Function) → g ≡ 0 → Knows k g → IsMeant k g (passed accepted moves s φ (meaning k g))
+  unheld_meant g φ none known = (known, is ∙ sym (λ i a. empty_stepped accepted moves s (joint moves φ (meaning k g)) never a i))
+    where
+      is : meaning k g ≡ (λ a. false)
+      is = ap (meaning k) none ∙ meaning_constant k sound false
 
-pub returns-then-is_dead-clause-some : goal.returns-then-is_dead-clause-some
-returns-then-is_dead-clause-some g c =
+      never : (b : Assignment) → joint moves φ (meaning k g) b ≡ false
+      never b = ap (λ (χ : Function). φ b && χ (told_by moves b)) is ∙ and_none (φ b)
+
+pub returns-then-is_dead : goal.returns-then-is_dead
+returns-then-is_dead g c =
     let w = c.args.worker.now in
     let rule = c.args.rule.now in
-    dead_meant (seen w) (seat_sound w.seat) rule.accepted (drop c.args.at rule.moves.items) c.args.states (meaning (seen w) c.args.r.number) (c.is_dead.ensures c.if-is_dead.true)
+    record { some = dead_meant (seen w) (seat_sound w.seat) rule.accepted (drop c.args.at rule.moves.items) c.args.states (meaning (seen w) c.args.r.number) (meaning (seen w) c.args.g.number) (c.is_dead.ensures c.if-is_dead.true) }
 
-pub returns-then-r-eq0-clause-some : goal.returns-then-r-eq0-clause-some
-returns-then-r-eq0-clause-some g c =
+pub returns-then-r-eq0 : goal.returns-then-r-eq0
+returns-then-r-eq0 g c =
     let w = c.args.worker.now in
     let rule = c.args.rule.now in
-    empty_meant (seen w) (seat_sound w.seat) rule.accepted (drop c.args.at rule.moves.items) c.args.states c.args.r.number c.if-r-eq0.true c.requires.known
+    record { some = empty_meant (seen w) (seat_sound w.seat) rule.accepted (drop c.args.at rule.moves.items) c.args.states c.args.r.number (meaning (seen w) c.args.g.number) c.if-r-eq0.true c.requires.known.0 }
 
-pub returns-then-at-end-clause-some : goal.returns-then-at-end-clause-some
-returns-then-at-end-clause-some g c =
+pub returns-then-g-eq0 : goal.returns-then-g-eq0
+returns-then-g-eq0 g c =
     let w = c.args.worker.now in
     let rule = c.args.rule.now in
-    let le : length rule.moves.items ≤ c.args.at = omega arith in
-    left_meant (seen w) (seat_sound w.seat) rule.accepted rule.moves.items c.args.states c.args.at (meaning (seen w) c.args.r.number) le (sym c.is_accepted.ensures ∙ c.if-is_accepted.false)
+    record { some = unheld_meant (seen w) (seat_sound w.seat) rule.accepted (drop c.args.at rule.moves.items) c.args.states c.args.g.number (meaning (seen w) c.args.r.number) c.if-g-eq0.true c.requires.known.1 }
 
-pub returns-clause-some : goal.returns-clause-some
-returns-clause-some g c =
+pub returns : goal.returns
+returns g c =
     let w = c.args.worker.now in
     let rule = c.args.rule.now in
-    IfSome_then c.find.result c.find.ensures (λ n has. found_right rule (seen w) c.args.memo.now c.args.at c.args.states c.args.r.number n.number c.requires.memo has)
+    record { some = IfSome_then c.find.result c.find.ensures (λ n has. found_right rule (seen w) c.args.memo.now c.args.at c.args.states c.args.r.number c.args.g.number n.number c.requires.memo has) }

@@ -1,36 +1,41 @@
-use Rattle.std.proofs.Common.{arith}
-use Rattle.std.proofs.lemmas.Result.{IfOk-weaker, IfErr-weaker}
+use Rattle.std.proofs.Common.{◌≡◌, IfOk, IfErr, List, true, sym, ap, ◌∙◌, subst}
+use Rattle.ja_node_core.specs.Node.{Words, Knows}
+use Rattle.ja_node_table.specs.Seats.{aim_of}
+use Rattle.ja_bdd.specs.Functions.{Function}
 use Rattle.ja_bdd.specs.Meaning.{meaning}
 use Rattle.ja_bdd.specs.Workers.{seen}
-use Rattle.ja_join.specs.Inner.{stepped_from}
-use Rattle.ja_join.proofs.Leading.{stepped_is, step_meant}
-use Rattle.ja_join.proofs.Remembering.{right_none}
+use Rattle.ja_bdd.proofs.Sound.{Sound, seat_sound, knows_constant, meaning_constant}
+use Rattle.ja_join.specs.declared.rule.Move.{Move}
+use Rattle.ja_join.specs.Steps.{IsStep, ArePartsAimed, LacksRoomAmong, joint}
+use Rattle.ja_join.proofs.Handing.{joint_true}
 use Rattle.ja_join.proofs.pass.step.Goals as goal
 
-pub step_from-requires-clause-asked : goal.step_from-requires-clause-asked
-step_from-requires-clause-asked g c κs within =
+-- with the constant true, the other function alone is left
+alone : (k : Words) → Sound k → (moves : List Move) (φ : Function) → joint moves φ (meaning k 1) ≡ φ
+alone k sound moves φ = ap (joint moves φ) (meaning_constant k sound true) ∙ joint_true moves φ
+
+pub step_with-requires-clause-known : goal.step_with-requires-clause-known
+step_with-requires-clause-known g c κs within = (c.requires.known, knows_constant (seen c.args.worker.now) true)
+
+pub step_with-requires-clause-aim : goal.step_with-requires-clause-aim
+step_with-requires-clause-aim g c κs within =
     let w = c.args.worker.now in
     let rule = c.args.rule.now in
     let φ = meaning (seen w) c.args.r.number in
-    record {
-      worker = c.requires.worker;
-      known = c.requires.known;
-      later = λ u lt. absurd (omega arith);
-      ascending = rule.ascending;
-      right = right_none rule (seen w) c.begin.new.self c.begin.ensures;
-      aimed = λ ψ low from free below. c.requires.aim (stepped_from rule 0 rule.start φ) (stepped_is rule φ) ψ low (λ v out is. free v (out, is)) below;
-    }
+    subst (λ ξ. (χ : Function) → IsStep rule ξ χ → ArePartsAimed (g.A.Aim.aims (aim_of c.args.table.now)) rule φ χ) (sym (alone (seen w) (seat_sound w.seat) rule.moves.items φ)) c.requires.aim
 
 pub returns-clause-ok : goal.returns-clause-ok
 returns-clause-ok g c =
     let w = c.args.worker.now in
     let rule = c.args.rule.now in
     let φ = meaning (seen w) c.args.r.number in
-    IfOk-weaker c.step_from.result _ _ (λ n is. (is.0, step_meant rule φ (meaning (seen c.step_from.new.worker) n.number) is.1)) c.step_from.ensures.ok
+    let w1 = c.step_with.new.worker in
+    subst (λ ξ. IfOk c.step_with.result (λ n. Knows (seen w1) n.number × IsStep rule ξ (meaning (seen w1) n.number))) (alone (seen w) (seat_sound w.seat) rule.moves.items φ) c.step_with.ensures.ok
 
 pub returns-clause-full : goal.returns-clause-full
 returns-clause-full g c =
     let w = c.args.worker.now in
     let rule = c.args.rule.now in
     let φ = meaning (seen w) c.args.r.number in
-    IfErr-weaker c.step_from.result _ _ (λ e lacks. (stepped_from rule 0 rule.start φ, stepped_is rule φ, lacks)) c.step_from.ensures.full
+    let w1 = c.step_with.new.worker in
+    subst (λ ξ. IfErr c.step_with.result (λ e. (χ : Function) × IsStep rule ξ χ × LacksRoomAmong c.args.table.now (seen w1) χ e)) (alone (seen w) (seat_sound w.seat) rule.moves.items φ) c.step_with.ensures.full

@@ -1,5 +1,5 @@
 use Rattle.std.proofs.Common.{refl}
-use Rattle.ja_methods.specs.Sites.{Joins}
+use Rattle.ja_methods.specs.InnerSites.{Joins}
 use Rattle.ja_methods.proofs.SiteSteps.{no-site-silent, pushed}
 use Rattle.ja_methods.proofs.site.push_site.Goals as goal
 

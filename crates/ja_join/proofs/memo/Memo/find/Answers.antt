@@ -6,4 +6,4 @@ pub returns-then-answers : goal.returns-then-answers
 returns-then-answers c =
     let es = c.args.self.now.entries.items in
     let is = c.answers.ensures c.if-answers.true in
-    (c.place-place.result, c.index.result.now, slice_get_read es (length es) c.place-place.result c.index.result.now refl c.place-place.ensures c.index.ensures, is.0, is.1, is.2, is.3, refl)
+    (c.place-place.result, c.index.result.now, slice_get_read es (length es) c.place-place.result c.index.result.now refl c.place-place.ensures c.index.ensures, is.0, is.1, is.2, is.3, is.4, refl)

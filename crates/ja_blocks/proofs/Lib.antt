@@ -1,0 +1,4 @@
+pub mod More
+pub mod Counted
+pub mod Ordering
+pub mod Reading

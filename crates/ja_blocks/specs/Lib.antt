@@ -1,0 +1,5 @@
+pub mod Blocks
+pub mod Index
+pub mod Readers
+pub mod Layouts
+pub mod Inner

@@ -1,0 +1,4 @@
+pub mod Reads
+pub mod InnerPool
+pub mod InnerNotes
+pub mod InnerMembers

@@ -1,0 +1,9 @@
+pub mod Meant
+pub mod Placed
+pub mod Gathered
+pub mod Clausal
+pub mod Within
+pub mod Roomy
+pub mod Ruled
+pub mod Ended
+pub mod Worked

@@ -1,0 +1,13 @@
+pub mod Looks
+pub mod Unique
+pub mod Closed
+pub mod Placed
+pub mod Settling
+pub mod Caught
+pub mod Reading
+pub mod Transfer
+pub mod Marking
+pub mod Named
+pub mod Keeping
+pub mod Raised
+pub mod Flagged

@@ -1,0 +1,7 @@
+pub mod Problem
+pub mod Cells
+pub mod Solved
+pub mod Settled
+pub mod Reads
+pub mod Nodes
+pub mod InnerMarks
