@@ -77,7 +77,7 @@ get_within (y ∷ xs) zero lt = (y, refl)
 get_within (y ∷ xs) (suc i) lt = get_within xs i (omega arith)
 
 module _ (given : Given) (is : IsGiven given) (aim : Tree → Type 0) (for_work : IsForWork (problem_of given) aim) where
-  part_aimed : (m : ℕ) (saying : Saying (problem_of given).program (known (problem_of given))) (φ : Function) → m < length given.program.now.methods → IsPartOf (problem_of given) m saying φ → IsAimed aim φ
+  pub part_aimed : (m : ℕ) (saying : Saying (problem_of given).program (known (problem_of given))) (φ : Function) → m < length given.program.now.methods → IsPartOf (problem_of given) m saying φ → IsAimed aim φ
   part_aimed m saying φ lt part t tree =
       let found = get_within given.program.now.methods m lt in
       let framed = is.frames m found.0 found.1 in

@@ -11,3 +11,4 @@ pub mod Named
 pub mod Keeping
 pub mod Raised
 pub mod Flagged
+pub mod Covered

@@ -1,7 +1,8 @@
 -- The rules of a block, and when they hold.
-use Rattle.std.specs.Prelude.{◌≡◌, ℕ, true, List, [], ◌∷◌, Some, slice_get}
+use Rattle.std.specs.Prelude.{◌≡◌, ℕ, Bool, true, false, List, [], ◌∷◌, Some, slice_get}
 use Rattle.ja_ir.specs.declared.entry.Site.{Site}
 use Rattle.ja_facts.specs.Least.{Each}
+use Rattle.ja_facts.specs.Formulas.{Assignment}
 use Rattle.ja_facts.specs.Equations.{Fact, Context, At, Normal, Threw, Stored, IsWarned}
 use Rattle.ja_blocks.specs.declared.blocks.ProgramBlock.{ProgramBlock}
 use Rattle.ja_blocks.specs.Blocks.{HasPlace}
@@ -39,6 +40,25 @@ Has block place = HasPlace block place.m place.i
 pub record IsSettled (x : Problem) (block : ProgramBlock) (from to : Values) : Type 0 where
   pub rules : (ps : List Fact) (f : Fact) → Gives x ps f → Has block (applied_at ps f) → Each (Said x from) ps → has_cell x f ≡ true → InCells x to f
   pub sites : (k : ℕ) (site : Site) → slice_get x.program.sites k ≡ Some site → HasPlace block site.method.0 site.index → IsWarned x.program (Said x from) site → to.warned k ≡ true
+
+-- the rules of instruction i of method m that go by what is before it, and its sites: what they give from what the first cells say, the second
+-- cells have
+pub record IsCovered (x : Problem) (m i : ℕ) (from to : Values) : Type 0 where
+  pub rules : (a b : Assignment) (ps : List Fact) (f : Fact) → Gives x (At m i a b ∷ ps) f → Said x from (At m i a b) → Each (Said x from) ps → has_cell x f ≡ true → InCells x to f
+  pub sites : (k : ℕ) (site : Site) → slice_get x.program.sites k ≡ Some site → site.method.0 ≡ m → site.index ≡ i → IsWarned x.program (Said x from) site → to.warned k ≡ true
+
+-- the first premise is one of what is before an instruction
+abbrev pub goes_by_at : List Fact → Bool
+goes_by_at (At m i a b ∷ ps) = true
+goes_by_at [] = false
+goes_by_at (Context m a ∷ ps) = false
+goes_by_at (Normal m a s ∷ ps) = false
+goes_by_at (Threw m a s ∷ ps) = false
+goes_by_at (Stored c ∷ ps) = false
+
+-- the rules by which method m is called by the environment, and begins
+pub record IsBegun (x : Problem) (m : ℕ) (from to : Values) : Type 0 where
+  pub rules : (ps : List Fact) (f : Fact) → Gives x ps f → goes_by_at ps ≡ false → (beginning_of f).m ≡ m → Each (Said x from) ps → has_cell x f ≡ true → InCells x to f
 
 -- each block of which this holds is settled
 abbrev pub AreSettled : Problem → (ℕ → Type 0) → Values → Type 0

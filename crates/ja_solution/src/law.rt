@@ -1,4 +1,4 @@
-ghost use Rattle.std.specs.Prelude.{◌≡◌, ◌↔◌, ℕ, Some, false, slice_get, ⊤};
+ghost use Rattle.std.specs.Prelude.{◌≡◌, ◌≤◌, ◌↔◌, ℕ, Some, false, slice_get, ⊤};
 ghost use Rattle.ja_facts.specs.Equations.{Fact};
 ghost use Rattle.ja_blocks.specs.Blocks.{AreProgramBlocks};
 ghost use Rattle.ja_node_core.specs.Node.{Words};
@@ -8,7 +8,7 @@ ghost use Rattle.ja_solution.specs.Nodes.{values_of, problem_of, IsGiven, IsStat
 ghost use Rattle.ja_solution.specs.Problem.{Problem, Solution};
 ghost use Rattle.ja_solution.specs.Cells.{Values, Said};
 ghost use Rattle.ja_ir.specs.Whole.{IsWhole};
-ghost use Rattle.ja_solution.specs.Settled.{AreSettled, IsSettled};
+ghost use Rattle.ja_solution.specs.Settled.{AreSettled, IsSettled, IsCovered, IsBegun};
 ghost use Rattle.ja_solution.specs.Reads.{ReadsNoMore, Grow};
 ghost use Rattle.ja_blocks.specs.declared.blocks.ProgramBlock.{ProgramBlock};
 ghost use Rattle.ja_solution.specs.Solved.{AreBelow, IsClosed, AreExact};
@@ -36,4 +36,10 @@ pub fn law_stays_settled()
 pub fn law_solved()
     ensures { (given : Given) (k : Words) (state : State) → IsGiven given → IsState (problem_of given) k state → ((b : ℕ) → is_dirty state.dirty.items b ≡ false)
         → AreExact (problem_of given) (values_of k state.cells) }
+{}
+
+/// A block is settled where each of its instructions is covered, and, if it begins its method, that begins.
+pub fn law_covered()
+    ensures { (x : Problem) (block : ProgramBlock) (from to : Values) → ((i : ℕ) → block.first ≤ i → i ≤ block.last → IsCovered x block.method.0 i from to) → (block.first ≡ 0 → IsBegun x block.method.0 from to)
+        → IsSettled x block from to }
 {}

@@ -8,5 +8,5 @@ mod state;
 
 pub use cells::{CellName, Cells, Counts};
 pub use given::Given;
-pub use law::{law_closed, law_settled, law_solved, law_stays_settled};
+pub use law::{law_closed, law_covered, law_settled, law_solved, law_stays_settled};
 pub use state::{State, first_state, next_dirty, raise, settle, store, warn};
