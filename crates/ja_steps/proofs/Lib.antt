@@ -1,0 +1,9 @@
+pub mod Masking
+pub mod Moving
+pub mod Leaving
+pub mod Placing
+pub mod Guessing
+pub mod Ending
+pub mod Setting
+pub mod Unread
+pub mod Needing

@@ -1,0 +1,4 @@
+pub mod Led
+pub mod Ends
+pub mod Wide
+pub mod Inner
