@@ -1,0 +1,3 @@
+mod Targets
+mod Placed
+mod Joined
