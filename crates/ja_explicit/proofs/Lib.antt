@@ -1,0 +1,15 @@
+pub mod Worded
+pub mod Quiet
+pub mod Lists
+pub mod Looping
+pub mod Wholeness
+pub mod Same
+pub mod Adding
+pub mod Handed
+pub mod Handing
+pub mod Sound
+pub mod Starting
+pub mod Complete
+pub mod Closed
+pub mod Warned
+pub mod Rounds
